@@ -1,6 +1,5 @@
 """Machines as files tell them, and what accesses cost on them, for `second-reading`."""
-import tomllib
-
+import documents
 from refusals import Stop
 
 PLACES = ("page", "code", "data", "second")
@@ -39,10 +38,9 @@ class Machine:
     @staticmethod
     def document(content):
         """The document of a file, whose version, keys and rule of sharing are right."""
-        try:
-            document = tomllib.loads(content.decode("utf-8"))
-        except (tomllib.TOMLDecodeError, UnicodeDecodeError):
-            raise fault("not TOML") from None
+        document = documents.document(content)
+        if document is None:
+            raise fault("not TOML")
         if not is_number(document.get("version")) or document["version"] != 1:
             raise fault("version")
         if set(document) - {"version", "sharing", *PLACES}:

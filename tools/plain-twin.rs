@@ -5,12 +5,16 @@
 //! ```text
 //! rustc --edition 2021 -O -o plain-twin tools/plain-twin.rs
 //! ./plain-twin audit p.mit s.toml --observer L --budget 1000
+//! ./plain-twin lab bound p.mit s.toml --observer L --machine m.toml
 //! ```
+//!
+//! Behind the word `lab` it does what the lab does by `seen`, `timeline`, `bound` and `leak`.
 //!
 //! It needs the standard library alone, has no unsafe code and starts no threads.
 //!
-//! What it leaves out is what of TOML start files seldom have: that gives a line on standard error and status 20, which
-//! says that this program does not answer the call.
+//! What it leaves out is what of TOML start files and machine files seldom have, and of the lab refused words and refused
+//! programs that run: that gives a line on standard error and status 20, which says that this program does not answer the
+//! call.
 
 use std::collections::HashMap;
 use std::hash::{BuildHasherDefault, Hasher};
@@ -28,6 +32,9 @@ const MOST_INSTRUCTIONS: usize = 200_000;
 const MOST_RUNS: usize = 4_096;
 const MOST_EVENTS: usize = 16_777_216;
 const GREATEST_BUDGET: u64 = 1 << 40;
+const MOST_SETS: i64 = 64;
+const MOST_WAYS: i64 = 8;
+const MOST_COST: u64 = 1_000;
 
 /// The status of a call that this program does not answer.
 const NOT_ANSWERED: u8 = 20;
@@ -897,6 +904,8 @@ struct Labelled<'a> {
     levels: Vec<u8>,
     /// The program counter label of each mitigate.
     counters: Vec<u8>,
+    /// The end label of the whole program.
+    end: u8,
     /// The labels of the nodes of the graph; each `while` names the node of its end label.
     nodes: Vec<u8>,
 }
@@ -1095,11 +1104,11 @@ fn labelled(mut program: Program) -> Answer<Labelled> {
     let labels = graph.labels;
     let names = program.declarations.len();
     let mut checker = Checker { program: &program, labels: &labels, counters: vec![0; program.levels.len()] };
-    checker.list(&mut body, program.lattice.bottom, program.lattice.bottom)?;
+    let end = checker.list(&mut body, program.lattice.bottom, program.lattice.bottom)?;
     let (counters, variables) = (checker.counters, labels[..names].to_vec());
     let levels = labels[names..names + program.levels.len()].to_vec();
     program.body = body;
-    Ok(Labelled { program, variables, levels, counters, nodes: labels })
+    Ok(Labelled { program, variables, levels, counters, end, nodes: labels })
 }
 
 fn rule_of(command: &Command) -> &'static str {
@@ -1442,13 +1451,15 @@ struct Image {
 
 struct Lowering<'p> {
     labelled: &'p Labelled<'p>,
+    /// Whether accesses of all labels go to the partition of the lowest one.
+    is_shared: bool,
     code: Vec<Instruction>,
     operands: usize,
     most_operands: usize,
 }
 
-fn lowered(labelled: &Labelled) -> Answer<Image> {
-    let mut lowering = Lowering { labelled, code: Vec::new(), operands: 0, most_operands: 0 };
+fn lowered(labelled: &Labelled, is_shared: bool) -> Answer<Image> {
+    let mut lowering = Lowering { labelled, is_shared, code: Vec::new(), operands: 0, most_operands: 0 };
     lowering.list(&labelled.program.body);
     let bottom = labelled.program.lattice.bottom;
     lowering.push(Act::Halt, (bottom, bottom));
@@ -1460,7 +1471,9 @@ fn lowered(labelled: &Labelled) -> Answer<Image> {
 
 impl Lowering<'_> {
     fn push(&mut self, act: Act, (read, write): (u8, u8)) {
-        let below = self.labelled.program.lattice.below[read as usize];
+        let lattice = &self.labelled.program.lattice;
+        let (read, write) = if self.is_shared { (lattice.bottom, lattice.bottom) } else { (read, write) };
+        let below = lattice.below[read as usize];
         let reach = Reach { others: below & !(1 << write), write, reads_own: below >> write & 1 != 0, read };
         self.code.push(Instruction { act, reach });
     }
@@ -1852,6 +1865,7 @@ impl<'p> Recheck<'p> {
 const FLAT: u8 = 0;
 const PART: u8 = 1;
 const PART2: u8 = 2;
+const MACHINE: u8 = 3;
 const FIRST_SETS: usize = 8;
 const SECOND_SETS: usize = 32;
 const NO_TAG: u32 = u32::MAX;
@@ -1860,8 +1874,106 @@ const CODE_MISS: u64 = 8;
 const DATA_MISS: u64 = 12;
 const SECOND_MISS: u64 = 30;
 
-/// The partitions of all labels, those of one place in one list. A set has its tags from front to back.
+/// What runs are made in: the name of an environment, or a machine.
+struct Setting {
+    kind: u8,
+    hardware: Hardware,
+}
+
+/// A machine from a file: its banks at the places, in the order of `PLACES`, and whether all labels share them.
+#[derive(Default)]
+struct Hardware {
+    banks: [Option<Bank>; 4],
+    is_shared: bool,
+}
+
+#[derive(Clone, Copy)]
+struct Bank {
+    sets: u32,
+    ways: u32,
+    bytes: u32,
+    hit: u64,
+    miss: u64,
+}
+
+/// A bank with the tags of all labels' partitions, each set's from front to back. A tag may be any `u32`.
+struct Held {
+    bank: Bank,
+    bytes: Divisor,
+    sets: Divisor,
+    tags: Vec<u64>,
+}
+
+/// A number by which much is divided: most are powers of two.
+struct Divisor {
+    number: u32,
+    exponent: Option<u32>,
+}
+
+impl Divisor {
+    fn new(number: u32) -> Self {
+        Divisor { number, exponent: number.is_power_of_two().then_some(number.trailing_zeros()) }
+    }
+
+    #[inline(always)]
+    fn quotient(&self, of: u32) -> u32 {
+        self.exponent.map_or_else(|| of / self.number, |exponent| of >> exponent)
+    }
+
+    #[inline(always)]
+    fn rest(&self, of: u32) -> u32 {
+        if self.exponent.is_some() { of & (self.number - 1) } else { of % self.number }
+    }
+}
+
+impl Held {
+    fn new(bank: Bank, labels: usize) -> Self {
+        let (bytes, sets) = (Divisor::new(bank.bytes), Divisor::new(bank.sets));
+        Held { bank, bytes, sets, tags: vec![u64::MAX; labels * (bank.sets * bank.ways) as usize] }
+    }
+
+    /// The place of the first tag of a label's set.
+    fn first(&self, label: usize, set: u32) -> usize {
+        (label * self.bank.sets as usize + set as usize) * self.bank.ways as usize
+    }
+
+    /// Whether a partition that may be read holds the tag of an address; the write label's own gets it at its front.
+    fn touch(&mut self, address: u32, reach: Reach) -> bool {
+        let tag = self.bytes.quotient(address);
+        let (set, ways, tag) = (self.sets.rest(tag), self.bank.ways as usize, tag as u64);
+        let first = self.first(reach.write as usize, set);
+        let mut carried = tag;
+        for held in &mut self.tags[first..first + ways] {
+            std::mem::swap(held, &mut carried);
+            if carried == tag {
+                break;
+            }
+        }
+        let mut is_held = carried == tag && reach.reads_own;
+        let mut others = reach.others;
+        while !is_held && others != 0 {
+            let first = self.first(others.trailing_zeros() as usize, set);
+            is_held = self.tags[first..first + ways].contains(&tag);
+            others &= others - 1;
+        }
+        is_held
+    }
+}
+
+/// Whether an address is held where there is a bank, and what it costs to look.
+#[inline(always)]
+fn looked_up(held: &mut Option<Held>, address: u32, reach: Reach) -> (bool, u64) {
+    let Some(held) = held else {
+        return (false, 0);
+    };
+    let is_held = held.touch(address, reach);
+    (is_held, if is_held { held.bank.hit } else { held.bank.miss })
+}
+
+/// The partitions of all labels, those of one place in one list. A set has its tags from front to back. Those of a machine
+/// from a file stand in `held`, in the order of `PLACES`.
 struct Caches {
+    held: [Option<Held>; 4],
     page: [[u32; 4]; MOST_LABELS],
     code: [[u32; 2]; MOST_LABELS * FIRST_SETS],
     data: [[u32; 2]; MOST_LABELS * FIRST_SETS],
@@ -1869,8 +1981,9 @@ struct Caches {
 }
 
 impl Caches {
-    fn new() -> Self {
+    fn new(setting: &Setting, labels: usize) -> Self {
         Caches {
+            held: setting.hardware.banks.map(|bank| bank.map(|bank| Held::new(bank, labels))),
             page: [[NO_TAG; 4]; MOST_LABELS],
             code: [[NO_TAG; 2]; MOST_LABELS * FIRST_SETS],
             data: [[NO_TAG; 2]; MOST_LABELS * FIRST_SETS],
@@ -1879,10 +1992,16 @@ impl Caches {
     }
 
     /// Makes the touches of a start.
-    fn warm(&mut self, environment: u8, touches: &[Touch]) {
+    fn warm(&mut self, setting: &Setting, bottom: u8, touches: &[Touch]) {
         for &Touch { place, label, address } in touches {
+            let label = if setting.hardware.is_shared { bottom } else { label };
             let reach = Reach { others: 0, write: label, reads_own: false, read: label };
-            match (place, environment) {
+            match (place, setting.kind) {
+                (_, MACHINE) => {
+                    if let Some(held) = &mut self.held[place as usize] {
+                        held.touch(address, reach);
+                    }
+                }
                 (_, FLAT) | (Place::Second, PART) => {}
                 (Place::Page, _) => _ = touch::<1, 4>(&mut self.page, address / 1024, reach),
                 (Place::Code, _) => _ = touch::<FIRST_SETS, 2>(&mut self.code, address / 32, reach),
@@ -1895,6 +2014,10 @@ impl Caches {
     /// Whether the partition of a label holds the same as another's.
     fn is_same(&self, other: &Caches, place: Place, label: u8) -> bool {
         let label = label as usize;
+        if let (Some(own), Some(others)) = (&self.held[place as usize], &other.held[place as usize]) {
+            let (first, end) = (own.first(label, 0), own.first(label + 1, 0));
+            return own.tags[first..end] == others.tags[first..end];
+        }
         let (first, second) = (label * FIRST_SETS, label * SECOND_SETS);
         match place {
             Place::Page => self.page[label] == other.page[label],
@@ -1909,6 +2032,15 @@ impl Caches {
         self.code[..labels * FIRST_SETS].fill([NO_TAG; 2]);
         self.data[..labels * FIRST_SETS].fill([NO_TAG; 2]);
         self.second[..labels * SECOND_SETS].fill([NO_TAG; 4]);
+        self.held.iter_mut().flatten().for_each(|held| held.tags.fill(u64::MAX));
+    }
+
+    /// What an access costs on a machine from a file.
+    fn access(&mut self, place: Place, address: u32, reach: Reach) -> u64 {
+        let (_, page) = looked_up(&mut self.held[Place::Page as usize], address, reach);
+        let (is_near, line) = looked_up(&mut self.held[place as usize], address, reach);
+        let (_, second) = looked_up(&mut self.held[Place::Second as usize], address, reach);
+        page + line + if is_near { 0 } else { second }
     }
 
     #[inline(always)]
@@ -1917,6 +2049,9 @@ impl Caches {
             return 0;
         }
         let address = 4 * at as u32;
+        if KIND == MACHINE {
+            return self.access(Place::Code, address, reach);
+        }
         let page = touch::<1, 4>(&mut self.page, address / 1024, reach);
         let first = touch::<FIRST_SETS, 2>(&mut self.code, address / 32, reach);
         self.cost::<KIND>(address / 32, reach, page, first, CODE_MISS)
@@ -1928,6 +2063,9 @@ impl Caches {
             return 0;
         }
         let address = (1 << 20) + 8 * variable as u32;
+        if KIND == MACHINE {
+            return self.access(Place::Data, address, reach);
+        }
         let page = touch::<1, 4>(&mut self.page, address / 1024, reach);
         let first = touch::<FIRST_SETS, 2>(&mut self.data, address / 32, reach);
         self.cost::<KIND>(address / 32, reach, page, first, DATA_MISS)
@@ -1988,11 +2126,19 @@ struct Opened {
     begun: u64,
 }
 
+impl Opened {
+    /// The prediction by a miss count.
+    fn predicts(&self, misses: u32) -> u128 {
+        (self.estimate.max(1) as u128) << misses
+    }
+}
+
 /// All that a run changes; it is used for one run after the other.
 struct Machine {
     memory: Vec<i64>,
     operands: Vec<i64>,
     labels: usize,
+    bottom: u8,
     caches: Caches,
     opened: Vec<Opened>,
     misses: [u32; MOST_LABELS],
@@ -2001,11 +2147,12 @@ struct Machine {
     has_halted: bool,
 }
 
-/// What a run tells: a variable, its new value and its cycle, and the mark of each mitigation that began or ended.
+/// What a run tells: a variable, its new value and its cycle; each mitigation that began, with the miss count then; and each
+/// that ended, with the cycle at which its body did, the miss counts before and after, and its cycle.
 trait Listener {
     fn assigned(&mut self, variable: usize, value: i64, cycle: u64);
-    fn began(&mut self, _mark: u32) {}
-    fn ended(&mut self, _mark: u32) {}
+    fn began(&mut self, _opened: &Opened, _misses: u32) {}
+    fn ended(&mut self, _opened: &Opened, _worked_to: u64, _misses: (u32, u32), _cycle: u64) {}
 }
 
 /// The value of an operator and what it costs beyond 1.
@@ -2032,12 +2179,14 @@ fn chosen(first: u32, length: u32, index: i64) -> usize {
 }
 
 impl Machine {
-    fn new(labels: usize, variables: usize, most_operands: usize) -> Self {
+    fn new(program: &Program, image: &Image, setting: &Setting) -> Self {
+        let labels = program.lattice.names.len();
         Machine {
-            memory: vec![0; variables],
-            operands: vec![0; most_operands + 1],
+            memory: vec![0; program.elements],
+            operands: vec![0; image.most_operands + 1],
             labels,
-            caches: Caches::new(),
+            bottom: program.lattice.bottom,
+            caches: Caches::new(setting, labels),
             opened: Vec::new(),
             misses: [0; MOST_LABELS],
             clock: 0,
@@ -2046,15 +2195,16 @@ impl Machine {
     }
 
     /// Runs an image from a start to a limit.
-    fn run(&mut self, environment: u8, code: &[Instruction], start: &Start, limit: u64, listener: &mut impl Listener) {
+    fn run(&mut self, setting: &Setting, code: &[Instruction], start: &Start, limit: u64, listener: &mut impl Listener) {
         self.memory.copy_from_slice(&start.memory);
         self.caches.clear(self.labels);
-        self.caches.warm(environment, &start.touches);
+        self.caches.warm(setting, self.bottom, &start.touches);
         self.opened.clear();
         self.misses = [0; MOST_LABELS];
-        match environment {
+        match setting.kind {
             FLAT => self.steps::<FLAT>(code, limit, listener),
             PART => self.steps::<PART>(code, limit, listener),
+            MACHINE => self.steps::<MACHINE>(code, limit, listener),
             _ => self.steps::<PART2>(code, limit, listener),
         }
     }
@@ -2129,16 +2279,18 @@ impl Machine {
                     if clock > limit {
                         break false;
                     }
-                    self.opened.push(Opened { estimate: operands[top], level, mark, begun: clock });
-                    listener.began(mark);
+                    let opened = Opened { estimate: operands[top], level, mark, begun: clock };
+                    listener.began(&opened, self.misses[level as usize]);
+                    self.opened.push(opened);
                 }
                 Act::End => match self.opened.pop() {
                     Some(opened) if clock <= limit => {
+                        let (worked_to, before) = (clock, self.misses[opened.level as usize]);
                         clock = settled(&opened, &mut self.misses, clock);
                         if clock > limit {
                             break false;
                         }
-                        listener.ended(opened.mark);
+                        listener.ended(&opened, worked_to, (before, self.misses[opened.level as usize]), clock);
                     }
                     _ => break false,
                 },
@@ -2162,12 +2314,11 @@ impl Machine {
 /// The clock after a mitigation that ends at `clock`; the miss counter of its level rises as far as it has to. A clock
 /// above every limit stands for all such clocks.
 fn settled(opened: &Opened, misses: &mut [u32; MOST_LABELS], clock: u64) -> u64 {
-    let estimate = opened.estimate.max(1) as u128;
     let count = &mut misses[opened.level as usize];
-    while (clock - opened.begun) as u128 >= estimate << *count {
+    while (clock - opened.begun) as u128 >= opened.predicts(*count) {
         *count += 1;
     }
-    (opened.begun as u128 + (estimate << *count)).min(2 * GREATEST_BUDGET as u128) as u64
+    (opened.begun as u128 + opened.predicts(*count)).min(2 * GREATEST_BUDGET as u128) as u64
 }
 
 // --- Start files
@@ -2194,7 +2345,7 @@ struct Start {
     touches: Vec<Touch>,
 }
 
-/// A value of a TOML document; `Other` is one that no start file wants.
+/// A value of a TOML document; `Other` is one that no file wants.
 enum Value<'t> {
     Integer(i64),
     Text(&'t str),
@@ -2213,7 +2364,7 @@ struct Toml<'t> {
 
 impl<'t> Toml<'t> {
     fn fault<T>(&self) -> Answer<T> {
-        plain(format!("starts: byte {} is not as this reader knows it", self.at))
+        plain(format!("byte {} is not as this reader of TOML knows it", self.at))
     }
 
     fn byte(&self) -> u8 {
@@ -2487,6 +2638,68 @@ fn touch_of(touch: &Value, version: u32, program: &Program) -> Option<Touch> {
     (version == 2 || place != Place::Second).then_some(touch)
 }
 
+// --- Machine files
+
+fn refused_machine<T>(what: String) -> Answer<T> {
+    Err(Stop::Line(3, format!("machine: {what}\n")))
+}
+
+fn hardware_of(text: &str) -> Answer<Hardware> {
+    let document = Toml { text, at: 0 }.document()?;
+    if !matches!(document.get("version"), Some(Value::Integer(1))) {
+        return refused_machine("version".into());
+    }
+    let is_known = |key: &str| matches!(key, "version" | "sharing") || PLACES.iter().any(|(place, _)| *place == key);
+    if !document.keys().all(|key| is_known(key)) {
+        return refused_machine("unknown key".into());
+    }
+    let is_shared = match document.get("sharing") {
+        Some(Value::Text("partitioned")) => false,
+        Some(Value::Text("shared")) => true,
+        _ => return refused_machine("sharing".into()),
+    };
+    let mut numbers = [None; 4];
+    for (place, (name, _)) in PLACES.iter().enumerate() {
+        if let Some(value) = document.get(name) {
+            match bank_numbers(value) {
+                None => return refused_machine(format!("{name}: not a bank")),
+                found => numbers[place] = found,
+            }
+        }
+    }
+    let mut hardware = Hardware { is_shared, ..Hardware::default() };
+    for (place, (name, _)) in PLACES.iter().enumerate() {
+        if let Some([sets, ways, bytes, hit, miss]) = numbers[place] {
+            let limits = [("sets", sets, MOST_SETS), ("ways", ways, MOST_WAYS), ("bytes", bytes, u32::MAX as i64)];
+            if let Some((what, ..)) = limits.iter().find(|(_, number, most)| !(1..=*most).contains(number)) {
+                return refused_machine(format!("{name}: {what}"));
+            }
+            hardware.banks[place] =
+                Some(Bank { sets: sets as u32, ways: ways as u32, bytes: bytes as u32, hit: hit as u64, miss: miss as u64 });
+        }
+    }
+    let [page, code, data, second] = hardware.banks.map(|bank| bank.map_or(0, |bank| bank.hit.max(bank.miss)));
+    match page + code.max(data) + second {
+        whole if whole > MOST_COST => refused_machine(format!("costs {whole}")),
+        _ => Ok(hardware),
+    }
+}
+
+/// The five numbers of a bank.
+fn bank_numbers(value: &Value) -> Option<[i64; 5]> {
+    let Value::Table(table) = value else {
+        return None;
+    };
+    let mut numbers = [0; 5];
+    for (number, name) in numbers.iter_mut().zip(["sets", "ways", "bytes", "hit", "miss"]) {
+        match table.get(name) {
+            Some(Value::Integer(found @ 0..=0xffff_ffff)) => *number = *found,
+            _ => return None,
+        }
+    }
+    (table.len() == 5).then_some(numbers)
+}
+
 // --- The untimed meaning
 
 struct Meaning<'p> {
@@ -2632,9 +2845,10 @@ fn made(size: u64, number: u64) -> (String, Vec<Start>) {
 fn gen_made(size: u64, number: u64) -> Answer<()> {
     let (text, starts) = made(size, number);
     let labelled = labelled(parsed(&text)?)?;
-    let image = lowered(&labelled)?;
-    let asked = Asked { environment: PART, budget: GREATEST_BUDGET, observer: 0, is_cut: false };
-    let audit = audit(&labelled, &image, &starts, &asked)?;
+    let image = lowered(&labelled, false)?;
+    let setting = Setting { kind: PART, hardware: Hardware::default() };
+    let asked = Asked { setting: &setting, budget: GREATEST_BUDGET, observer: 0, is_cut: false };
+    let audit = audit(&labelled, &image, &starts, &asked)?.text(&labelled, &asked);
     let (commands, instructions) = (labelled.program.commands, image.code.len());
     let length = text.len();
     send(format!("made {size} {number}\nprogram {length}\ncommands {commands}\ninstructions {instructions}\n{audit}").as_bytes());
@@ -2759,8 +2973,8 @@ fn run(labelled: &Labelled, image: &Image, start: &Start, words: &Words, observe
     let owners = program.owners();
     let is_shown = shown(labelled, &owners, observer);
     let mut printer = EventPrinter { program, owners, is_shown, out: Vec::with_capacity(2 * FULL) };
-    let mut machine = Machine::new(program.lattice.names.len(), program.elements, image.most_operands);
-    machine.run(words.environment, &image.code, start, words.budget, &mut printer);
+    let mut machine = Machine::new(program, image, &words.setting);
+    machine.run(&words.setting, &image.code, start, words.budget, &mut printer);
     let mut out = printer.out;
     out.extend_from_slice(if machine.has_halted { b"end @" } else { b"limit @" });
     write_number(machine.clock, &mut out);
@@ -2776,12 +2990,15 @@ fn run(labelled: &Labelled, image: &Image, start: &Start, words: &Words, observe
 type Event = (u32, i64, u64);
 
 /// The events that the observer sees, those of each different run once, and the numbers of relevant mitigations that
-/// began and ended in the run at hand.
+/// began and ended in the run at hand: all, and for each level those that began. `firsts` has for each level the least first
+/// prediction of one in any run.
 struct Watch {
     is_shown: Vec<bool>,
     is_relevant: Vec<bool>,
     events: Vec<Event>,
     begun: u64,
+    begun_of: [u64; MOST_LABELS],
+    firsts: [u64; MOST_LABELS],
     ended: u64,
 }
 
@@ -2792,12 +3009,17 @@ impl Listener for Watch {
         }
     }
 
-    fn began(&mut self, mark: u32) {
-        self.begun += self.is_relevant[mark as usize] as u64;
+    fn began(&mut self, opened: &Opened, _misses: u32) {
+        if self.is_relevant[opened.mark as usize] {
+            let level = opened.level as usize;
+            self.begun += 1;
+            self.begun_of[level] += 1;
+            self.firsts[level] = self.firsts[level].min(opened.predicts(0) as u64);
+        }
     }
 
-    fn ended(&mut self, mark: u32) {
-        self.ended += self.is_relevant[mark as usize] as u64;
+    fn ended(&mut self, opened: &Opened, _worked_to: u64, _misses: (u32, u32), _cycle: u64) {
+        self.ended += self.is_relevant[opened.mark as usize] as u64;
     }
 }
 
@@ -2832,31 +3054,54 @@ fn hash_of(events: &[Event]) -> u64 {
 }
 
 /// What an audit is asked; one that is cut counts what is seen up to the budget, halted or not.
-struct Asked {
-    environment: u8,
+struct Asked<'s> {
+    setting: &'s Setting,
     budget: u64,
     observer: u8,
     is_cut: bool,
 }
 
-fn audit(labelled: &Labelled, image: &Image, starts: &[Start], asked: &Asked) -> Answer<String> {
+/// What is counted of the starts: of relevant mitigations those that the first run begins, all and by their levels, with the
+/// least first prediction of each level, and the most that end in a run; and the class of each run.
+struct Audit {
+    begun: u64,
+    begun_of: [u64; MOST_LABELS],
+    firsts: [u64; MOST_LABELS],
+    most_ended: u64,
+    halted: u64,
+    of_runs: Vec<usize>,
+    ranges: Vec<(usize, usize)>,
+    events: Vec<Event>,
+}
+
+/// Which mitigates are relevant to an observer.
+fn relevant(labelled: &Labelled, observer: u8) -> Vec<bool> {
+    let lattice = &labelled.program.lattice;
+    let marks = labelled.counters.iter().zip(&labelled.levels);
+    marks.map(|(counter, level)| lattice.flows(*counter, observer) && !lattice.flows(*level, observer)).collect()
+}
+
+fn audit(labelled: &Labelled, image: &Image, starts: &[Start], asked: &Asked) -> Answer<Audit> {
     let program = &labelled.program;
-    let lattice = &program.lattice;
     let owners = program.owners();
     let is_shown = shown(labelled, &owners, Some(asked.observer));
     agreed(program, starts, &owners, &is_shown, asked)?;
-    let marks = labelled.counters.iter().zip(&labelled.levels);
-    let is_relevant =
-        marks.map(|(counter, level)| lattice.flows(*counter, asked.observer) && !lattice.flows(*level, asked.observer));
-    let is_relevant = is_relevant.collect();
-    let mut watch = Watch { is_shown, is_relevant, events: Vec::new(), begun: 0, ended: 0 };
-    let mut machine = Machine::new(lattice.names.len(), program.elements, image.most_operands);
+    let mut watch = Watch {
+        is_shown,
+        is_relevant: relevant(labelled, asked.observer),
+        events: Vec::new(),
+        begun: 0,
+        begun_of: [0; MOST_LABELS],
+        firsts: [u64::MAX; MOST_LABELS],
+        ended: 0,
+    };
+    let mut machine = Machine::new(program, image, asked.setting);
     let (mut classes, mut of_runs, mut total) = (Classes::default(), Vec::new(), 0);
-    let (mut mitigations, mut most_ended, mut halted) = (0, 0, 0);
+    let (mut begun, mut begun_of, mut most_ended, mut halted) = (0, [0; MOST_LABELS], 0, 0);
     for (number, start) in starts.iter().enumerate() {
         let first = watch.events.len();
         watch.ended = 0;
-        machine.run(asked.environment, &image.code, start, asked.budget, &mut watch);
+        machine.run(asked.setting, &image.code, start, asked.budget, &mut watch);
         if !machine.has_halted && !asked.is_cut {
             return Err(Stop::Line(10, format!("unfinished: run {} @{}\n", number + 1, machine.clock)));
         }
@@ -2865,34 +3110,44 @@ fn audit(labelled: &Labelled, image: &Image, starts: &[Start], asked: &Asked) ->
             return Err(Stop::Line(7, format!("too long: events {total}\n")));
         }
         if number == 0 {
-            mitigations = watch.begun;
+            (begun, begun_of) = (watch.begun, watch.begun_of);
         }
         most_ended = most_ended.max(watch.ended);
         halted += machine.has_halted as u64;
         of_runs.push(classes.class_of(&mut watch.events, first));
     }
-    let levels = (0..lattice.names.len()).filter(|label| !lattice.flows(*label as u8, asked.observer)).count();
-    let exponent = levels as u32 * (u64::BITS - asked.budget.leading_zeros());
-    let (count, observer, budget, distinct) = (starts.len(), lattice.name(asked.observer), asked.budget, classes.ranges.len());
-    let (middle, base) = match asked.is_cut {
-        true => (format!("ended {most_ended}\nhalted {halted}\n"), most_ended + 1),
-        false => (format!("mitigations {mitigations}\n"), mitigations + 1),
-    };
-    let mut out = format!(
-        "runs {count}\nobserver {observer}\nbudget {budget}\nlevels {levels}\n{middle}distinct {distinct}\nbound {base}^{exponent}\n"
-    );
-    for (number, class) in of_runs.iter().enumerate() {
-        out += &format!("run {} class {}\n", number + 1, class + 1);
+    let (firsts, events, ranges) = (watch.firsts, watch.events, classes.ranges);
+    Ok(Audit { begun, begun_of, firsts, most_ended, halted, of_runs, ranges, events })
+}
+
+impl Audit {
+    fn text(&self, labelled: &Labelled, asked: &Asked) -> String {
+        let lattice = &labelled.program.lattice;
+        let levels = (0..lattice.names.len()).filter(|label| !lattice.flows(*label as u8, asked.observer)).count();
+        let exponent = levels as u32 * (u64::BITS - asked.budget.leading_zeros());
+        let (middle, base) = match asked.is_cut {
+            true => (format!("ended {}\nhalted {}\n", self.most_ended, self.halted), self.most_ended + 1),
+            false => (format!("mitigations {}\n", self.begun), self.begun + 1),
+        };
+        let (levels, bound) = match asked.setting.hardware.is_shared {
+            true => (String::new(), NO_BOUND.into()),
+            false => (format!("levels {levels}\n"), format!("bound {base}^{exponent}")),
+        };
+        let (count, observer, budget, distinct) = (self.of_runs.len(), lattice.name(asked.observer), asked.budget, self.ranges.len());
+        let mut out = format!("runs {count}\nobserver {observer}\nbudget {budget}\n{levels}{middle}distinct {distinct}\n{bound}\n");
+        for (number, class) in self.of_runs.iter().enumerate() {
+            out += &format!("run {} class {}\n", number + 1, class + 1);
+        }
+        out
     }
-    Ok(out)
 }
 
 /// Finds the first run that differs from the first one in what the observer sees: a variable or a partition.
 fn agreed(program: &Program, starts: &[Start], owners: &[u32], is_shown: &[bool], asked: &Asked) -> Answer<()> {
     let lattice = &program.lattice;
     let caches = |start: &Start| {
-        let mut caches = Box::new(Caches::new());
-        caches.warm(asked.environment, &start.touches);
+        let mut caches = Box::new(Caches::new(asked.setting, lattice.names.len()));
+        caches.warm(asked.setting, lattice.bottom, &start.touches);
         caches
     };
     let has_touches = starts.iter().any(|start| !start.touches.is_empty());
@@ -2921,6 +3176,277 @@ fn agreed(program: &Program, starts: &[Start], owners: &[u32], is_shown: &[bool]
     }
     Ok(())
 }
+
+// --- The lab
+
+const NO_BOUND: &str = "no bound: all labels share the banks, and the law on the write label does not hold";
+
+/// Writes what each run tells, a line each or a timeline each.
+struct Teller<'p> {
+    labelled: &'p Labelled<'p>,
+    owners: Vec<u32>,
+    is_shown: Vec<bool>,
+    /// What is written between a name and its value, before a cycle, and behind it.
+    signs: [&'static str; 3],
+    has_moments: bool,
+    places: Vec<(usize, usize)>,
+    /// Of each mitigate how many ended, the shortest and the longest of them, and how many missed.
+    ends: Vec<(u64, u64, u64, u64)>,
+    out: Vec<u8>,
+}
+
+impl Teller<'_> {
+    fn head(&self, mark: u32) -> String {
+        let (line, column) = self.places[mark as usize];
+        let level = self.labelled.program.lattice.name(self.labelled.levels[mark as usize]);
+        format!("#{mark} {line}:{column} level {level}")
+    }
+}
+
+impl Listener for Teller<'_> {
+    fn assigned(&mut self, variable: usize, value: i64, cycle: u64) {
+        if self.is_shown[variable] {
+            let [equals, at, end] = self.signs;
+            self.labelled.program.write_variable(&self.owners, variable, &mut self.out);
+            self.out.extend_from_slice(equals.as_bytes());
+            write_signed(value, &mut self.out);
+            self.out.extend_from_slice(at.as_bytes());
+            write_number(cycle, &mut self.out);
+            self.out.extend_from_slice(end.as_bytes());
+        }
+    }
+
+    fn began(&mut self, opened: &Opened, misses: u32) {
+        if self.has_moments {
+            let (head, estimate, length, cycle) = (self.head(opened.mark), opened.estimate, opened.predicts(misses), opened.begun);
+            let line = format!("begin {head} estimate {estimate} predicts {length} misses {misses} @{cycle}\n");
+            self.out.extend_from_slice(line.as_bytes());
+        }
+    }
+
+    fn ended(&mut self, opened: &Opened, worked_to: u64, (before, after): (u32, u32), cycle: u64) {
+        if self.has_moments {
+            let (head, worked, length) = (self.head(opened.mark), worked_to - opened.begun, opened.predicts(after));
+            let line = format!("end {head} worked {worked} lasts {length} misses {before} to {after} @{cycle}\n");
+            self.out.extend_from_slice(line.as_bytes());
+            let (count, shortest, longest, missed) = self.ends[opened.mark as usize];
+            let shortest = if count == 0 { worked } else { shortest.min(worked) };
+            self.ends[opened.mark as usize] = (count + 1, shortest, longest.max(worked), missed + (before < after) as u64);
+        }
+    }
+}
+
+/// The places of the mitigates of commands, by their marks.
+fn places_of(commands: &[Command], text: &str, places: &mut Vec<(usize, usize)>) {
+    for command in commands {
+        match &command.form {
+            Form::If { yes, no } => {
+                places_of(yes, text, places);
+                places_of(no, text, places);
+            }
+            Form::While { body, .. } => places_of(body, text, places),
+            Form::Mitigate { mark, body } => {
+                places[*mark as usize] = place_of(text, command.at as usize);
+                places_of(body, text, places);
+            }
+            _ => {}
+        }
+    }
+}
+
+/// The lines of `seen` or of `timeline`.
+fn told_of_runs(labelled: &Labelled, image: &Image, starts: &[Start], words: &Words, observer: Option<u8>) -> String {
+    let (program, marks) = (&labelled.program, labelled.levels.len());
+    let (owners, mut places) = (program.owners(), vec![(0, 0); marks]);
+    let (is_shown, has_moments) = (shown(labelled, &owners, observer), words.command == "timeline");
+    places_of(&program.body, program.text, &mut places);
+    let signs = if has_moments { [" = ", " @", "\n"] } else { ["=", "@", " "] };
+    let ends = vec![(0, 0, 0, 0); marks];
+    let mut teller = Teller { labelled, owners, is_shown, signs, has_moments, places, ends, out: Vec::new() };
+    let mut machine = Machine::new(program, image, &words.setting);
+    for (number, start) in (1..).zip(starts) {
+        let head = if has_moments { format!("run {number}\n") } else { format!("{number}\t") };
+        teller.out.extend_from_slice(head.as_bytes());
+        machine.run(&words.setting, &image.code, start, words.budget, &mut teller);
+        match teller.out.last_mut() {
+            _ if has_moments => {
+                let last = if machine.has_halted { "end" } else { "limit" };
+                teller.out.extend_from_slice(format!("{last} @{}\n", machine.clock).as_bytes());
+            }
+            Some(last) if *last == b' ' => *last = b'\n',
+            _ => teller.out.extend_from_slice(b"-\n"),
+        }
+    }
+    let mut text = String::from_utf8_lossy(&teller.out).into_owned();
+    for (mark, ((line, column), (count, shortest, longest, missed))) in teller.places.iter().zip(&teller.ends).enumerate() {
+        if has_moments {
+            let least = longest + 1;
+            text += &format!("mitigate #{mark} {line}:{column} ended {count} shortest {shortest} longest {longest} missed {missed} least {least}\n");
+        }
+    }
+    text
+}
+
+/// The line that tells which kind of machine was used, if one was.
+fn machine_line(asked: &Asked) -> &'static str {
+    match (asked.setting.kind, asked.setting.hardware.is_shared) {
+        (MACHINE, true) => "machine shared\n",
+        (MACHINE, false) => "machine partitioned\n",
+        _ => "",
+    }
+}
+
+/// How many lists of so many numbers below another one never fall; None where that is 2^128 or more.
+fn lists(entries: u64, digits: u64) -> Option<u128> {
+    let mut count = 1u128;
+    for i in 1..digits {
+        let (mut a, mut b) = (count, i as u128);
+        while b != 0 {
+            (a, b) = (b, a % b);
+        }
+        count = (count / a).checked_mul((entries as u128 + i as u128) / (i as u128 / a))?;
+    }
+    Some(count)
+}
+
+/// How many ways there are to choose so many powers of two, in no order, that add up to at most so much.
+fn powers_within(entries: u64, most: u64, known: &mut HashMap<(u64, u64), u128>) -> u128 {
+    if most < entries || entries == 0 {
+        return (entries == 0) as u128;
+    }
+    if let Some(count) = known.get(&(entries, most)) {
+        return *count;
+    }
+    let count = 1 + (0..entries).map(|ones| powers_within(entries - ones, (most - ones) / 2, known)).sum::<u128>();
+    known.insert((entries, most), count);
+    count
+}
+
+/// The lines of the levels, and the sharp count and the count by shared time, each None where it is 2^128 or more.
+fn of_levels(labelled: &Labelled, audit: &Audit, asked: &Asked) -> (String, Option<u128>, Option<u128>) {
+    let lattice = &labelled.program.lattice;
+    let (mut text, mut sharp, mut shared) = (String::new(), Some(1u128), Some(1u128));
+    for level in 0..lattice.names.len() {
+        if lattice.flows(level as u8, asked.observer) {
+            continue;
+        }
+        let (begun, first) = (audit.begun_of[level], audit.firsts[level]);
+        text += &format!("level {} mitigations {begun}", lattice.names[level]);
+        if begun > 0 {
+            let digits = (u64::BITS - (asked.budget / first).leading_zeros()) as u64;
+            let all = lists(begun, digits);
+            let within = if begun <= 64 { Some(powers_within(begun, asked.budget / first, &mut HashMap::new())) } else { all };
+            sharp = sharp.zip(all).and_then(|(a, b)| a.checked_mul(b));
+            shared = shared.zip(within).and_then(|(a, b)| a.checked_mul(b));
+            text += &format!(" first {first} digits {digits}");
+        }
+        text += "\n";
+    }
+    (text, sharp, shared)
+}
+
+/// Whether a relevant mitigate stands in another one.
+fn has_nested(commands: &[Command], is_relevant: &[bool], is_inside: bool) -> bool {
+    commands.iter().any(|command| match &command.form {
+        Form::If { yes, no } => has_nested(yes, is_relevant, is_inside) || has_nested(no, is_relevant, is_inside),
+        Form::While { body, .. } => has_nested(body, is_relevant, is_inside),
+        Form::Mitigate { mark, body } => {
+            let is_one = is_relevant[*mark as usize];
+            is_inside && is_one || has_nested(body, is_relevant, is_inside || is_one)
+        }
+        _ => false,
+    })
+}
+
+fn count_line(name: &str, count: Option<u128>) -> String {
+    count.map_or(format!("{name} 2^128 or more\n"), |count| format!("{name} {count}\n"))
+}
+
+/// The line of the count by shared time, where there is one.
+fn shared_line(labelled: &Labelled, asked: &Asked, shared: Option<u128>) -> String {
+    let is_nested = has_nested(&labelled.program.body, &relevant(labelled, asked.observer), false);
+    if is_nested { String::new() } else { count_line("shared", shared) }
+}
+
+fn bound_text(labelled: &Labelled, audit: &Audit, asked: &Asked) -> String {
+    let text = machine_line(asked).to_string() + &audit.text(labelled, asked);
+    if asked.setting.hardware.is_shared {
+        return text;
+    }
+    let (levels, sharp, shared) = of_levels(labelled, audit, asked);
+    let bits = match sharp {
+        None => "bits 128 or more\nguess no limit told\n".into(),
+        Some(count) => {
+            let bits = u128::BITS - (count.max(1) - 1).leading_zeros();
+            format!("bits {bits}\nguess at most {count} times as often\n")
+        }
+    };
+    let end = match labelled.program.lattice.flows(labelled.end, asked.observer) {
+        true => "end counted: the same holds for who sees runs end\n",
+        false => "end not counted: no limit told for who sees runs end\n",
+    };
+    text + &levels + &count_line("sharp", sharp) + &bits + &shared_line(labelled, asked, shared) + end
+}
+
+/// The binary logarithm in units of 2^-32, by squares that are rounded down.
+fn log_units(n: u64) -> u64 {
+    let (mut units, mut mantissa) = (n.ilog2() as u64, (n as u128) << (62 - n.ilog2()));
+    for _ in 0..32 {
+        let square = mantissa * mantissa;
+        let carry = (square >> 125) as u64;
+        units = 2 * units + carry;
+        mantissa = square >> (62 + carry);
+    }
+    units
+}
+
+/// The line of a number that lies between two numbers of units.
+fn between(name: &str, low: u64, high: u64) -> String {
+    const PARTS: u128 = 1_000_000_000;
+    let (low, high) = (low as u128 * PARTS >> 32, (high as u128 * PARTS).div_ceil(1 << 32));
+    let number = |n: u128| format!("{}.{:09}", n / PARTS, n % PARTS);
+    format!("{name} {} to {}\n", number(low), number(high))
+}
+
+fn leak_text(labelled: &Labelled, audit: &Audit, asked: &Asked) -> String {
+    let is_kept = |line: &&str| ["runs ", "observer ", "budget ", "bound ", "no bound"].iter().any(|word| line.starts_with(word));
+    let head: Vec<String> = audit.text(labelled, asked).lines().filter(is_kept).map(|line| format!("{line}\n")).collect();
+    let mut text = machine_line(asked).to_string() + &head.concat();
+    if !asked.setting.hardware.is_shared {
+        let (_, sharp, shared) = of_levels(labelled, audit, asked);
+        text += &(count_line("sharp", sharp) + &shared_line(labelled, asked, shared));
+    }
+    let (whole, distinct) = (audit.of_runs.len() as u64, audit.ranges.len());
+    let (mut sizes, mut firsts) = (vec![0u64; distinct], vec![0; distinct]);
+    for (number, class) in audit.of_runs.iter().enumerate().rev() {
+        sizes[*class] += 1;
+        firsts[*class] = number + 1;
+    }
+    let log = log_units(distinct as u64);
+    let weighed: u64 = sizes.iter().map(|size| size * log_units(*size)).sum();
+    let shannon = (whole * log_units(whole)).saturating_sub(weighed) / whole;
+    let squares: u64 = sizes.iter().map(|size| size * size).sum();
+    let (least, greatest) = (sizes.iter().min().unwrap_or(&0), sizes.iter().max().unwrap_or(&0));
+    text += &format!("distinct {distinct}\nleast {least} greatest {greatest}\n");
+    text += &between("min-entropy", log, log + 2);
+    text += &between("shannon", shannon.saturating_sub(2), shannon + 3);
+    text += &format!("right at first 1 of {whole} before, {distinct} of {whole} after\n");
+    text += &format!("guesses {}/2 before, {}/{} after\n", whole + 1, squares + whole, 2 * whole);
+    let owners = labelled.program.owners();
+    for (class, (from, to)) in audit.ranges.iter().enumerate() {
+        let mut field = Vec::new();
+        for (variable, value, cycle) in &audit.events[*from..*to] {
+            labelled.program.write_variable(&owners, *variable as usize, &mut field);
+            field.extend_from_slice(format!("={value}@{cycle} ").as_bytes());
+        }
+        let field = String::from_utf8_lossy(&field);
+        let field = if field.is_empty() { "-" } else { field.trim_end() };
+        text += &format!("class {} first {}\t{field}\n", sizes[class], firsts[class]);
+    }
+    text
+}
+
+// --- Words
 
 const USAGE: &str = "usage: mitigate check FILE
        mitigate infer FILE
@@ -2954,21 +3480,50 @@ const COMMANDS: [(&str, usize, usize, &[&str], &str); 11] = [
     ("recheck", 2, 2, &[], ""),
 ];
 
+/// The same of the lab's commands that are answered.
+const LAB_COMMANDS: [(&str, usize, usize, &[&str], &str); 4] = [
+    ("seen", 2, 2, &["observer", "env", "budget", "machine"], "observer"),
+    ("timeline", 2, 2, &["observer", "env", "budget", "machine"], ""),
+    ("bound", 2, 2, &["observer", "env", "budget", "machine"], "observer"),
+    ("leak", 2, 2, &["observer", "env", "budget", "machine"], "observer"),
+];
+
 /// The words of a call.
 struct Words {
     command: &'static str,
+    is_of_lab: bool,
     positional: Vec<String>,
-    environment: u8,
+    machine: Option<String>,
+    setting: Setting,
     budget: u64,
     observer: Option<String>,
     steps: u64,
     first: u64,
 }
 
-fn words(given: Vec<String>) -> Answer<Words> {
+impl Words {
+    fn is_shared(&self) -> bool {
+        self.setting.hardware.is_shared
+    }
+
+    /// The answer to words that ask for nothing: of the lab it is left out.
+    fn usage<T>(&self) -> Answer<T> {
+        if self.is_of_lab { plain("what the lab tells of wrong words is left out") } else { usage() }
+    }
+}
+
+fn words(mut given: Vec<String>) -> Answer<Words> {
+    if given.first().is_none_or(|word| word != "lab") {
+        return words_of(given, &COMMANDS, false);
+    }
+    given.remove(0);
+    words_of(given, &LAB_COMMANDS, true).or_else(|_| plain("what the lab tells of wrong words is left out"))
+}
+
+fn words_of(given: Vec<String>, commands: &'static [(&str, usize, usize, &[&str], &str)], is_of_lab: bool) -> Answer<Words> {
     let mut rest = given.into_iter();
     let command = rest.next().unwrap_or_default();
-    let Some((command, least, most, names, needed)) = COMMANDS.iter().find(|known| known.0 == command) else {
+    let Some((command, least, most, names, needed)) = commands.iter().find(|known| known.0 == command) else {
         return usage();
     };
     let (mut positional, mut options) = (Vec::new(), HashMap::new());
@@ -2997,7 +3552,11 @@ fn words(given: Vec<String>) -> Answer<Words> {
     if !(*least..=*most).contains(&positional.len()) || !needed.is_empty() && !options.contains_key(needed) {
         return usage();
     }
-    let environment = match options.get("env").map(String::as_str) {
+    if options.contains_key("env") && options.contains_key("machine") {
+        return usage();
+    }
+    let kind = match options.get("env").map(String::as_str) {
+        None if options.contains_key("machine") => MACHINE,
         Some("flat") => FLAT,
         None | Some("part") => PART,
         Some("part2") => PART2,
@@ -3009,7 +3568,9 @@ fn words(given: Vec<String>) -> Answer<Words> {
     };
     Ok(Words {
         command,
-        environment,
+        is_of_lab,
+        setting: Setting { kind, hardware: Hardware::default() },
+        machine: options.get("machine").cloned(),
         budget: number("budget", 1, 1_000_000)?,
         steps: number("steps", 0, 0)?,
         first: number("first", 1, 1)?,
@@ -3027,13 +3588,16 @@ fn number_in(text: &str, least: u64, most: u64) -> Answer<u64> {
 }
 
 fn bytes_of(words: &Words, place: usize, what: &str) -> Answer<Vec<u8>> {
-    match std::fs::read(&words.positional[place]) {
+    bytes_in(&words.positional[place], what)
+}
+
+fn bytes_in(name: &str, what: &str) -> Answer<Vec<u8>> {
+    match std::fs::read(name) {
         Ok(bytes) if bytes.len() <= MOST_BYTES => Ok(bytes),
         Ok(_) => Err(Stop::Line(7, format!("too long: {what}\n"))),
         Err(_) => Err(Stop::Line(5, format!("read fault: {what}\n"))),
     }
 }
-
 
 fn read_starts(words: &Words, program: &Program) -> Answer<Vec<Start>> {
     if words.positional.len() < 2 {
@@ -3045,7 +3609,14 @@ fn read_starts(words: &Words, program: &Program) -> Answer<Vec<Start>> {
     }
 }
 
-fn answered(words: &Words) -> Answer<u8> {
+fn answered(mut words: Words) -> Answer<u8> {
+    if let Some(name) = &words.machine {
+        words.setting.hardware = match String::from_utf8(bytes_in(name, "machine")?) {
+            Ok(text) => hardware_of(&text)?,
+            Err(_) => return refused_machine("not TOML".into()),
+        };
+    }
+    let words = &words;
     match words.command {
         "blackbox" => black_box(&ready_runs(&bytes_of(words, 0, "ready")?)?, words.first, words.budget),
         "gen" => {
@@ -3067,7 +3638,7 @@ fn of_program(words: &Words) -> Answer<u8> {
     let observer = match &words.observer {
         None => None,
         Some(name) => match program.lattice.find(name) {
-            None => return usage(),
+            None => return words.usage(),
             label => label,
         },
     };
@@ -3095,18 +3666,27 @@ fn of_labelled(words: &Words, labelled: &Labelled, observer: Option<u8>, counts:
             printer.program();
             send(&printer.out);
         }
-        "compile" => send(&image_text(labelled, &lowered(labelled)?)),
+        "compile" => send(&image_text(labelled, &lowered(labelled, words.is_shared())?)),
         "run" => {
-            let image = lowered(labelled)?;
+            let image = lowered(labelled, words.is_shared())?;
             return Ok(run(labelled, &image, &read_starts(words, program)?[0], words, observer));
         }
         _ => {
-            let image = lowered(labelled)?;
+            let image = lowered(labelled, words.is_shared())?;
             let starts = read_starts(words, program)?;
+            if matches!(words.command, "seen" | "timeline") {
+                send(told_of_runs(labelled, &image, &starts, words, observer).as_bytes());
+                return Ok(0);
+            }
             let observer = observer.unwrap_or(program.lattice.bottom);
-            let Words { environment, budget, .. } = *words;
-            let asked = Asked { environment, budget, observer, is_cut: words.command == "cut" };
-            send(audit(labelled, &image, &starts, &asked)?.as_bytes());
+            let asked = Asked { setting: &words.setting, budget: words.budget, observer, is_cut: words.command == "cut" };
+            let audit = audit(labelled, &image, &starts, &asked)?;
+            let text = match words.command {
+                "bound" => bound_text(labelled, &audit, &asked),
+                "leak" => leak_text(labelled, &audit, &asked),
+                _ => audit.text(labelled, &asked),
+            };
+            send(text.as_bytes());
         }
     }
     Ok(0)
@@ -3116,7 +3696,7 @@ fn main() -> ExitCode {
     let Ok(given) = std::env::args_os().skip(1).map(|word| word.into_string()).collect() else {
         return ExitCode::from(BAD_WORDS);
     };
-    match words(given).and_then(|words| answered(&words)) {
+    match words(given).and_then(answered) {
         Ok(status) => ExitCode::from(status),
         Err(Stop::Line(status, line)) => {
             send(line.as_bytes());

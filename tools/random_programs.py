@@ -40,24 +40,6 @@ class Maker:
             runs += f"[[run]]\nmemory = {{ {', '.join(values)} }}\n"
         return runs
 
-    def bank(self):
-        numbers = {
-            "sets": self.dice.choice([1, 2, 3, 8, 64]),
-            "ways": self.dice.randint(1, 8),
-            "bytes": self.dice.choice([4, 8, 24, 32, 1024]),
-            "hit": self.dice.choice([0, 0, 1, 5]),
-            "miss": self.dice.choice([0, 7, 20, 200]),
-        }
-        if self.dice.random() < 0.02:
-            numbers[self.dice.choice(list(numbers))] = self.dice.choice([-1, 0, 65, 900])
-        return f"{{ {', '.join(f'{name} = {number}' for name, number in numbers.items())} }}"
-
-    def machine(self):
-        """A machine file, now and then one that is refused."""
-        sharing = self.dice.choice(["partitioned", "shared"] * 20 + ["both"])
-        banks = [f"{place} = {self.bank()}\n" for place in ("page", "code", "data", "second") if self.dice.random() < 0.7]
-        return f'version = 1\nsharing = "{sharing}"\n' + "".join(banks)
-
     def place(self, depth=0):
         name, is_array = self.dice.choice(self.variables)
         return f"{name}[{self.expression(depth + 1)}]" if is_array else name
@@ -219,3 +201,50 @@ class ConstantTimeMaker(Maker):
             return f"{name}[{self.value(is_public, 1)}] := {value}{self.marks()}"
         name = self.dice.choice(self.public + self.secret)
         return f"{name} := {self.value(name in self.public and is_public, 2)}{self.marks()}"
+
+
+# Values of variables, and the places where starts touch addresses.
+VALUES = [0, 1, 2, 3, 5, 7, -1, -3, 40, 255, 1000, 32767, 32768, -32768, -32769, 40000, 10**12, 2**63 - 1, -(2**63)]
+PLACES = ["page", "code", "data", "second"]
+
+
+class Starts:
+    """Starts of a program that agree for an observer, and below a label of the environments."""
+
+    def __init__(self, program, labelling, observer, parts, dice):
+        self.program, self.dice = program, dice
+        flows, self.names = program.lattice.flows, program.lattice.names
+        self.is_seen = [flows[labelling.of[program.name_of(x)]][observer] for x in range(len(program.names))]
+        self.is_felt = {name: flows[label][parts] for label, name in enumerate(self.names)}
+        self.memory, self.touched = self.values(), self.touches()
+
+    def values(self):
+        return [self.dice.choice(VALUES) if self.dice.random() < 0.5 else self.dice.randint(0, 9) for _ in self.program.names]
+
+    def touches(self):
+        """Touches of lines that the code and the variables of a small program use, and of others that stand in their way."""
+        made = []
+        for _ in range(self.dice.randint(0, 14)):
+            address = self.dice.randrange(1024) if self.dice.random() < 0.5 else 2**20 + self.dice.randrange(600)
+            made.append((self.dice.choice(PLACES), self.dice.choice(self.names), address))
+        return made
+
+    def another(self):
+        """A memory and touches: what is seen stays, and of the touches those in the parts that agree."""
+        fresh = self.values()
+        memory = [old if is_seen or self.dice.random() < 0.3 else new for old, new, is_seen in zip(self.memory, fresh, self.is_seen)]
+        kept = [touch for touch in self.touched if self.is_felt[touch[1]]]
+        return memory, kept + [touch for touch in self.touches() if not self.is_felt[touch[1]]]
+
+
+def start_file(program, starts):
+    """A start file of these memories and touches."""
+    text = "version = 2\n"
+    for memory, touches in starts:
+        given = []
+        for name, length in program.lengths.items():
+            values = memory[program.first[name] :][: length or 1]
+            given.append(f"{name} = {values[0] if length is None else values}")
+        made = "".join(f'  {{ place = "{place}", label = "{label}", address = {address} }},\n' for place, label, address in touches)
+        text += f"[[run]]\nmemory = {{ {', '.join(given)} }}\ntouch = [\n{made}]\n"
+    return text
