@@ -46,7 +46,8 @@ pub memory_alone : (IsLine : List ℕ → Type 0) (r : Status) (old new : Option
     → (r ≢ status.WriteFault → HasSent old new (memory_line ∷ [])) → (r ≡ status.WriteFault → HasBroken old new (memory_line ∷ []))
     → HasWritten (AreLines IsLine) r old new
 memory_alone IsLine r old new is sent broken =
-    one_piece (AreLines IsLine) status.Memory r memory_line old new (inr ((λ e. absurd cc), (λ e. absurd cc), [], memory_line, refl, All-nil IsLine)) is sent broken
+    one_piece (AreLines IsLine) status.Memory r memory_line old new
+    (inr ((λ e. absurd cc), (λ e. absurd cc), [], memory_line, refl, All-nil IsLine)) is sent broken
 
 -- ---- lines
 

@@ -15,7 +15,8 @@ loop-k-init c = record {
 
 pub returns-in_default-right_variable-clause-fault : goal.returns-in_default-right_variable-clause-fault
 returns-in_default-right_variable-clause-fault c =
-    wrong_variable c.args.p.now c.laws-2.ensures.valid c.args.bytes.now c.lattice-order.result.now c.lattice-order.ensures c.declarations-declarations.result.now
+    wrong_variable c.args.p.now c.laws-2.ensures.valid c.args.bytes.now c.lattice-order.result.now c.lattice-order.ensures
+    c.declarations-declarations.result.now
     c.declarations-declarations.ensures
     c.loop-k.k c.loop-k.found.items c.loop-k.invariant.count c.declaration-name.result c.declaration-name.ensures c.loop-k.rest.now c.loop-k.invariant.begins
     (c.loop-k.k + 2) refl c.in_default-right_variable.ensures
