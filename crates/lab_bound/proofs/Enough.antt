@@ -214,7 +214,8 @@ module _ {E : Type 0} (v : Env E) (serves : Order → E → Type 0) (made : Orde
       let size : q.program.order.size ≡ length levels = sym h.size in
       go ss levels counts
       (subst (λ n. FewShown view same (starts_of made q.program.order ss) (sharp (ends_by t firsts) n counts)) size some.2)
-      (counts_same ss (counts_of levels) counts (each_memory (λ m. BeginsEach (order_of q) (labels_of q) (levels_of q) o (plan_of q.program) m counts) ss some.1) h.begun)
+      (counts_same ss (counts_of levels) counts
+      (each_memory (λ m. BeginsEach (order_of q) (labels_of q) (levels_of q) o (plan_of q.program) m counts) ss some.1) h.begun)
     where
       go : (ss : List StartValue) (levels : List LevelRuns) (counts : ℕ → ℕ)
           → FewShown view same (starts_of made q.program.order ss) (sharp (ends_by t (firsts_of levels)) (length levels) counts)
@@ -242,7 +243,8 @@ module _ {E : Type 0} (v : Env E) (serves : Order → E → Type 0) (made : Orde
       go ss levels counts
       (subst (λ n. FewShown view same (starts_of made q.program.order ss) (shared t firsts n counts)) size
       (few_shown view same tests (starts_of made q.program.order ss) (shared t firsts q.program.order.size counts) (le_trans way.count enough)))
-      (counts_same ss (counts_of levels) counts (each_memory (λ m. BeginsEach (order_of q) (labels_of q) (levels_of q) o (plan_of q.program) m counts) ss some.1) h.begun)
+      (counts_same ss (counts_of levels) counts
+      (each_memory (λ m. BeginsEach (order_of q) (labels_of q) (levels_of q) o (plan_of q.program) m counts) ss some.1) h.begun)
     where
       go : (ss : List StartValue) (levels : List LevelRuns) (counts : ℕ → ℕ)
           → FewShown view same (starts_of made q.program.order ss) (shared t (firsts_of levels) (length levels) counts)
@@ -424,7 +426,8 @@ module _ (sharp : (e : Environment) → IsPartitioned e → LoweredSharpOver (en
           few = f.few;
           ended = λ end same tests. few_told v AnyHistory history_made q o t (seen_to_end v (order_of q) (labels_of q) (lowered q).instrs o t)
               ((ending e parted q is_typed).halted o low' end t some) ss levels study same tests;
-          shared = λ apart. shared_told v AnyHistory history_made q o t (sequence_from v q o t) ((sharing e parted q is_typed).few o low' t some) apart ss levels
+          shared = λ apart. shared_told v AnyHistory history_made q o t (sequence_from v q o t) ((sharing e parted q is_typed).few o low' t some) apart
+              ss levels
               study same_sequence tests_sequences;
           shared_ended = λ apart end same tests. shared_told v AnyHistory history_made q o t (seen_to_end v (order_of q) (labels_of q) (lowered q).instrs o t)
               ((ending e parted q is_typed).shared o low' end t some) apart ss levels study same tests;

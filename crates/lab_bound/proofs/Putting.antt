@@ -11,7 +11,8 @@ use Rattle.sharp_count.specs.Shared.{shared_of}
 use Rattle.timing_types.specs.Labelled.{LabelledProgram}
 use Rattle.own_firsts.specs.Count.{own_of}
 use Rattle.level_counts.specs.Listed.{AreListed}
-use Rattle.lab_bound.specs.Text.{level_line, level_lines, number_text, shared_line, own_line, IsSharpText, IsOwnText, SharpPut, BoundPut, SharedPut, TextPut, AreApart, sharp_of}
+use Rattle.lab_bound.specs.Text.{level_line, level_lines, number_text, shared_line, own_line, AreApart, sharp_of}
+use Rattle.lab_bound.specs.Text.{IsSharpText, IsOwnText, SharpPut, BoundPut, SharedPut, TextPut}
 
 -- the lines of the levels before the i-th stand after a text
 pub record LevelsPut (order : Order) (o t : ℕ) (levels : List LevelRuns) (old : List ℕ) (i : ℕ) (now : List ℕ) : Type 0 where

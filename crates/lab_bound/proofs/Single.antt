@@ -30,7 +30,8 @@ use Rattle.part_tlb.specs.declared.bank.Sharing.TheVariants.{Partitioned, Shared
 use Rattle.tool_stages.specs.Envs.{hardware_of}
 use Rattle.machine_stage.specs.Lines.{machine_head, no_bound_line}
 use Rattle.audit_stage.proofs.Once.{audit_stops, one_audit_stop, same_report, not_fault, same_lines, two_parts}
-use Rattle.lab_bound.specs.Text.{IsBits, IsSharpText, IsBoundText, IsSharedText, IsOwnText, IsEndText, level_lines, number_text, shared_line, own_line, sharp_of}
+use Rattle.lab_bound.specs.Text.{IsBits, IsSharpText, IsBoundText, IsSharedText, IsOwnText, IsEndText}
+use Rattle.lab_bound.specs.Text.{level_lines, number_text, shared_line, own_line, sharp_of}
 use Rattle.lab_bound.specs.Answer.{HasBound, HasCounts, TellsBy, shown_head, shown_lines, Bounds}
 use Rattle.lab_bound.specs.Complete.{HasOneBound}
 use Rattle.lab_bound.proofs.Enough.{same_counts}

@@ -3,7 +3,8 @@ use Rattle.std.proofs.Common.{◌≡◌, ◌<◌, ◌≤◌, ℕ, zero, suc, ◌
 use Rattle.std.specs.Prelude.{slice_set, slice_index_or, get_or, cond, eqb, min}
 use Rattle.std.specs.declared.alloc.Global.{Global}
 use Rattle.std.proofs.lemmas.Bool.{cases_lt, cases_eq, ne_eqb}
-use Rattle.std.proofs.lemmas.List.{length-set, length-map, map-append, map-set, get_or-map, get_or_past, get_or-set_same, get_or-set_other, replicate-append-replicate}
+use Rattle.std.proofs.lemmas.List.{length-set, length-map, map-append, map-set}
+use Rattle.std.proofs.lemmas.List.{get_or-map, get_or_past, get_or-set_same, get_or-set_other, replicate-append-replicate}
 use Rattle.own_firsts.specs.Count.{firsts_at, many_at, first_at}
 use Rattle.level_counts.specs.Listed.{lists}
 use Rattle.level_counts.specs.Noted.{lesser}
@@ -14,7 +15,8 @@ Lists = List (Vec ℕ Global)
 abbrev items : Vec ℕ Global → List ℕ
 items v = v.items
 
-pub one_empty_more : (old new : Lists) (v : Vec ℕ Global) (n : ℕ) → lists old ≡ replicate n [] → new ≡ old ++ v ∷ [] → v.items ≡ [] → lists new ≡ replicate (n + 1) []
+pub one_empty_more : (old new : Lists) (v : Vec ℕ Global) (n : ℕ)
+    → lists old ≡ replicate n [] → new ≡ old ++ v ∷ [] → v.items ≡ [] → lists new ≡ replicate (n + 1) []
 one_empty_more old new v n h e none =
     ap lists e ∙ map-append items old (v ∷ []) ∙ ap (λ z. z ++ v.items ∷ []) h ∙ ap (λ z. replicate n [] ++ z ∷ []) none
     ∙ replicate-append-replicate n 1 []

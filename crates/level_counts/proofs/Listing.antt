@@ -121,8 +121,10 @@ module _ (rel : ℕ → Bool) (ls : ℕ → ℕ) (p : Plan) (m : List ℤ) where
   module _ (n k x : ℕ) (listed : List (List ℕ)) (h : (l : ℕ) → Places n l (firsts_at listed l)) (is : begins_after p m n ≡ Some (k, x))
       (marks : marks_of p m (n + 1) ≡ marks_of p m n ++ k ∷ []) (below : ls k < length listed) where
     off : (l : ℕ) → of l k ≡ false → Places (n + 1) l (firsts_at listed l)
-    off l out = places_off n l (firsts_at listed l) (h l) never (count_more l n k marks ∙ (let z : cond (of l k) 1 0 ≡ 0 = ap {B = ℕ} (λ (b : Bool). cond b 1 0) out in
-        let r : earlier_of l n + cond (of l k) 1 0 ≡ earlier_of l n = omega (arith, z) in r))
+    off l out =
+        let z : cond (of l k) 1 0 ≡ 0 = ap {B = ℕ} (λ (b : Bool). cond b 1 0) out in
+        let r : earlier_of l n + cond (of l k) 1 0 ≡ earlier_of l n = omega (arith, z) in
+        places_off n l (firsts_at listed l) (h l) never (count_more l n k marks ∙ r)
       where
         never : (j y : ℕ) → begins_after p m n ≡ Some (j, y) → of l j ≡ true → ⊥
         never j y e in' =
@@ -131,8 +133,10 @@ module _ (rel : ℕ → Bool) (ls : ℕ → ℕ) (p : Plan) (m : List ℤ) where
             both_ways (of l k) out (subst (λ z. of l z ≡ true) (ap (λ z. z.0) pair) in')
 
     on : (l : ℕ) → of l k ≡ true → Places (n + 1) l (firsts_at listed l ++ x ∷ [])
-    on l in' = places_on n l k x (firsts_at listed l) (h l) is in' (count_more l n k marks ∙ (let z : cond (of l k) 1 0 ≡ 1 = ap {B = ℕ} (λ (b : Bool). cond b 1 0) in' in
-        let r : earlier_of l n + cond (of l k) 1 0 ≡ earlier_of l n + 1 = omega (arith, z) in r))
+    on l in' =
+        let z : cond (of l k) 1 0 ≡ 1 = ap {B = ℕ} (λ (b : Bool). cond b 1 0) in' in
+        let r : earlier_of l n + cond (of l k) 1 0 ≡ earlier_of l n + 1 = omega (arith, z) in
+        places_on n l k x (firsts_at listed l) (h l) is in' (count_more l n k marks ∙ r)
 
     abbrev one : Mitigation
     one = record { level = ls k; first = x }
@@ -161,7 +165,8 @@ module _ (rel : ℕ → Bool) (ls : ℕ → ℕ) (p : Plan) (m : List ℤ) where
 
 -- ---- where a walk stands, with what is listed
 
-pub record GoingListed (rel : ℕ → Bool) (ls : ℕ → ℕ) (s : Syntax) (m : List ℤ) (n : ℕ) (walker : Standing) (now : List ℤ) (listed : List (List ℕ)) : Type 0 where
+pub record GoingListed (rel : ℕ → Bool) (ls : ℕ → ℕ) (s : Syntax) (m : List ℤ) (n : ℕ) (walker : Standing) (now : List ℤ) (listed : List (List ℕ)) :
+    Type 0 where
   pub levels : List LevelRuns
   pub going : Going rel ls s m n walker now levels
   pub size : length listed ≡ s.order.size
@@ -191,7 +196,8 @@ module _ (rel : ℕ → Bool) (ls : ℕ → ℕ) (s : Syntax) (m : List ℤ) whe
     levels = replicate r.order.size none;
     going = going_begin rel ls s m r walker now (replicate r.order.size none) e valid begin same long refl;
     size = length-empty r.order.size listed empty ∙ ap (λ (z : Syntax). z.order.size) e;
-    places = λ l. subst (Places rel ls (plan_of s) m 0 l) (sym (ap (λ z. firsts_at z l) empty ∙ none_listed r.order.size l)) (places_none rel ls (plan_of s) m l);
+    places = λ l. subst (Places rel ls (plan_of s) m 0 l) (sym (ap (λ z. firsts_at z l) empty ∙ none_listed r.order.size l))
+        (places_none rel ls (plan_of s) m l);
   }
 
   module _ (n : ℕ) (walker new : Standing) (walk : Walk) (now : List ℤ) (listed : List (List ℕ)) (h : GoingListed rel ls s m n walker now listed)
