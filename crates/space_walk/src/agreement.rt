@@ -29,8 +29,8 @@ fn ranges(p: &Labelled, observer: Label, x: u32, interval: Interval) -> bool
     lattice.flows(p.variable_label(x), observer)
 }
 
-// The first variable that an observer sees and that has two values or more.
-fn first_ranging(p: &Labelled, observer: Label, memory: &[Interval]) -> Option<u32>
+/// The first variable that an observer sees and that has two values or more, of variables that have these values.
+pub fn first_ranging(p: &Labelled, observer: Label, memory: &[Interval]) -> Option<u32>
     requires observer { observer.number < p.now.program.order.size }
     requires memory { length memory.now ≡ variables p.now.program.declarations }
     ensures { MatchOption result (NoneRanges p.now observer.number memory.now) (IsFirstRanging p.now observer.number memory.now) }

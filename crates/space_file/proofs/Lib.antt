@@ -1,0 +1,5 @@
+pub mod Ascii
+pub mod Filling
+pub mod Touching
+pub mod Reading
+pub mod OneSpace

@@ -1,0 +1,18 @@
+-- A file gives one space, or one refusal.
+use Rattle.std.proofs.Common.{◌≡◌, ◌∙◌, refl, sym, ap, ℕ, List, Option, None, Some, Result}
+use Rattle.std.proofs.lemmas.Option.{none-some}
+use Rattle.toml.specs.Data.{Members}
+use Rattle.mit_syntax.specs.Program.{Syntax}
+use Rattle.start_file.specs.Starts.{IsDocument}
+use Rattle.space_file.specs.declared.fault.SpaceFault.{SpaceFault}
+use Rattle.space_file.specs.Files.{document_space, GivesSpace}
+use Rattle.space_starts.specs.Space.{SpaceValue}
+
+same_document : (bytes : List ℕ) (d e : Option Members) → IsDocument bytes d → IsDocument bytes e → d ≡ e
+same_document bytes None None g h = refl
+same_document bytes None (Some n) g h = absurd (none-some n (sym (g h.0) ∙ h.1))
+same_document bytes (Some m) None g h = absurd (none-some m (sym (h g.0) ∙ g.1))
+same_document bytes (Some m) (Some n) g h = sym g.1 ∙ h.1
+
+pub one_space_answer : (p : Syntax) (bytes : List ℕ) (r s : Result SpaceValue SpaceFault) → GivesSpace p bytes r → GivesSpace p bytes s → r ≡ s
+one_space_answer p bytes r s g h = g.2 ∙ ap (document_space p) (same_document bytes g.0 h.0 g.1 h.1) ∙ sym h.2

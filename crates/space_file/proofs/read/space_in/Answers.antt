@@ -1,0 +1,13 @@
+use Rattle.std.proofs.lemmas.Result.{IfOk-weaker}
+use Rattle.start_file.specs.Tables.{data_of}
+use Rattle.space_starts.specs.Space.{seen}
+use Rattle.space_file.proofs.Reading.{is_for}
+use Rattle.space_file.proofs.read.space_in.Goals as goal
+
+pub returns-clause-valid : goal.returns-clause-valid
+returns-clause-valid c =
+    let memory = c.in_ok-memory.ensures in
+    let touches = c.in_ok-touches.ensures in
+    IfOk-weaker c.counted.result _ _
+    (λ s h. is_for c.args.program.now c.requires.order (seen s) _ (data_of c.at.result) (data_of c.at-2.result) memory.put memory.are touches.ok h.0 h.1)
+    c.counted.ensures.same

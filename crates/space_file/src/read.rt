@@ -1,0 +1,120 @@
+//! From the bytes of a file to a space of starts.
+
+ghost use Rattle.std.specs.Prelude.{◌≡◌, ◌≢◌, ◌≤◌, ◌^◌, All, Some, None, Ok, Err, IfOk, IfErr};
+ghost use Rattle.toml.specs.View.{view, table_view};
+ghost use Rattle.mit_syntax.specs.Valid.{IsValid};
+ghost use Rattle.start_file.specs.Tables.{data_of};
+ghost use Rattle.start_file.specs.Starts.{IsDocument};
+ghost use Rattle.space_starts.specs.Space.{seen, size_of, IsSpaceFor};
+ghost use Rattle.space_file.specs.Files.{is_three, space_in, space_of, document_space, counted, GivesSpace};
+
+use crate::fault::SpaceFault;
+use crate::keys::{has_top_keys, space_keys_pass};
+use crate::memory::values;
+use crate::table::at;
+use crate::touch::touches;
+use mit_syntax::program::Program;
+use space_starts::space::Space;
+use std::alloc::Global;
+use toml::{Table, Value};
+
+fn document(alloc: Global, bytes: &[u8]) -> Result<Table, SpaceFault>
+    ensures ok { IfOk result (λ t. IsDocument bytes.now (Some (table_view t))) }
+    ensures fault { IfErr result (λ e. e ≢ SpaceFault.Memory → e ≡ SpaceFault.NotToml) }
+    ensures refused { IfErr result (λ e. e ≢ SpaceFault.Memory → IsDocument bytes.now None) }
+{
+    match toml::de::table_from_slice(alloc, bytes) {
+        Ok(table) => Ok(table),
+        Err(fault) => {
+            if fault.is_memory() {
+                return Err(SpaceFault::Memory);
+            }
+            Err(SpaceFault::NotToml)
+        }
+    }
+}
+
+// Whether a version is 3.
+fn is_three(version: Option<&Value>) -> bool
+    ensures { result ≡ is_three (data_of version.entry) }
+{
+    let Some(value) = version else {
+        return false;
+    };
+    match value {
+        Value::Integer(number) => *number == 3,
+        _ => false,
+    }
+}
+
+// A space that has not too many starts.
+fn counted(alloc: Global, space: Space) -> Result<Space, SpaceFault>
+    ensures ok { IfOk result (λ s. counted (seen space) ≡ Ok (seen s)) }
+    ensures same { IfOk result (λ s. (seen s ≡ seen space) × (size_of (seen s) ≤ 2 ^ 40)) }
+    ensures refused { IfErr result (λ e. e ≢ SpaceFault.Memory → counted (seen space) ≡ Err e) }
+{
+    match space.size(alloc)? {
+        Some(_) => Ok(space),
+        None => Err(SpaceFault::TooMany),
+    }
+}
+
+fn space_in(alloc: Global, program: &Program, table: &Table) -> Result<Space, SpaceFault>
+    requires { IsValid program.now }
+    ensures ok { IfOk result (λ s. space_in program.now (table_view table.now) ≡ Ok (seen s)) }
+    ensures valid { IfOk result (λ s. IsSpaceFor program.now (seen s)) }
+    ensures refused { IfErr result (λ e. e ≢ SpaceFault.Memory → space_in program.now (table_view table.now) ≡ Err e) }
+{
+    if !space_keys_pass(program, table) {
+        return Err(SpaceFault::UnknownKey);
+    }
+    let memory = values(alloc, program, at(table, "memory"))?;
+    let touches = touches(alloc, program, at(table, "touch"))?;
+    counted(alloc, Space { memory, touches })
+}
+
+fn space(alloc: Global, program: &Program, space: Option<&Value>) -> Result<Space, SpaceFault>
+    requires { IsValid program.now }
+    ensures ok { IfOk result (λ s. space_of program.now (data_of space.entry) ≡ Ok (seen s)) }
+    ensures valid { IfOk result (λ s. IsSpaceFor program.now (seen s)) }
+    ensures refused { IfErr result (λ e. e ≢ SpaceFault.Memory → space_of program.now (data_of space.entry) ≡ Err e) }
+{
+    let Some(value) = space else {
+        return Err(SpaceFault::NoSpace);
+    };
+    match value {
+        Value::Table(table) => space_in(alloc, program, table),
+        _ => Err(SpaceFault::NoSpace),
+    }
+}
+
+fn document_space(alloc: Global, program: &Program, table: &Table) -> Result<Space, SpaceFault>
+    requires { IsValid program.now }
+    ensures ok { IfOk result (λ s. document_space program.now (Some (table_view table.now)) ≡ Ok (seen s)) }
+    ensures valid { IfOk result (λ s. IsSpaceFor program.now (seen s)) }
+    ensures refused { IfErr result (λ e. e ≢ SpaceFault.Memory → document_space program.now (Some (table_view table.now)) ≡ Err e) }
+{
+    if !is_three(at(table, "version")) {
+        return Err(SpaceFault::Version);
+    }
+    if !has_top_keys(table) {
+        return Err(SpaceFault::UnknownKey);
+    }
+    space(alloc, program, at(table, "space"))
+}
+
+/// The space of starts that a file of version 3 gives for a program. It has values for each variable of the program, its
+/// touches are of labels of the program, and it has at most 2^40 starts.
+///
+/// # Errors
+/// What the file is refused for first, or `Memory`. First the document, its version and its keys are checked, then the
+/// values, then the touches, and then the number of starts.
+pub fn read_space(alloc: Global, bytes: &[u8], program: &Program) -> Result<Space, SpaceFault>
+    ensures ok { IfOk result (λ s. GivesSpace program.now bytes.now (Ok (seen s))) }
+    ensures valid { IfOk result (λ s. IsSpaceFor program.now (seen s)) }
+    ensures refused { IfErr result (λ e. e ≢ SpaceFault.Memory → GivesSpace program.now bytes.now (Err e)) }
+{
+    let table = document(alloc, bytes)?;
+    program.laws();
+    document_space(alloc, program, &table)
+}

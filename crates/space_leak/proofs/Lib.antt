@@ -1,0 +1,5 @@
+pub mod Fields
+pub mod Telling
+pub mod Sizes
+pub mod Walks
+pub mod Once
