@@ -6,7 +6,7 @@ use run_watch::Watch;
 use std::process::ExitCode;
 use tim_base::shelf::FileShelf;
 use tim_base::sink::OutSink;
-use tool_main::output::{Outlet, Target, target_of};
+use tool_main::output::{Outlet, target_of};
 use tool_main::progress::ProgressLine;
 use tool_main::words::words;
 use tool_texts::status::Status;
@@ -19,12 +19,7 @@ fn main(rt: HostRuntime) -> ExitCode {
         Err(refused) => return ExitCode::from(refused.number()),
     };
     let mut shelf = FileShelf::new(&rt);
-
-    // `timeline` tells no watch how far its runs have come, so none of its lines waits.
-    let target = match words.first() {
-        Some(word) if word.as_str() == "timeline" => Target::Terminal,
-        _ => target_of(&rt, &rt.stdout()),
-    };
+    let target = target_of(&rt, &rt.stdout());
     let outlet = Outlet::new(alloc, &rt, &progress, rt.stdout(), target);
     let mut out = OutSink::new(&outlet, &outlet);
     let status = lab_main(alloc, words.as_slice(), &mut shelf, &mut out);
