@@ -22,8 +22,22 @@ use cycle_machine::state::State;
 use env_contract::env::MachineEnv;
 use label_code::image::Image;
 use label_lattice::label::Label;
+use run_watch::{RunNumber, Watch};
 use tim_base::sink::{Sink, SinkFault, write_all};
 use timing_types::labelled::Labelled;
+
+// After how many steps who looks at the sink is told how far the run is.
+const STAGE: u32 = 1 << 18;
+
+const ONE_RUN: RunNumber = RunNumber { run: 1, runs: 1 };
+
+// Tells who looks at the sink how far the run is, once in so many steps.
+#[inline(always)]
+fn tell_steps<W: Sink>(out: &W, steps: u32, clock: u64, limit: u64) {
+    if steps % STAGE == 0 {
+        out.tell(ONE_RUN, clock, limit);
+    }
+}
 
 /// Runs an image from a start to a limit in cycles, and writes a line for each beginning and each end of a
 /// mitigation, a line for each assignment, or of those that the observer sees, and then how it ended. Counts
@@ -59,7 +73,10 @@ pub fn print_timeline<E: MachineEnv + Drop, W: Sink>(
 {
     image.laws();
     let order = p.program().lattice();
+    let mut steps = 0u32;
     'run: loop {
+        steps = steps.wrapping_add(1);
+        tell_steps(&*out, steps, state.clock, limit);
         match step(image, &mut state, limit) {
             Step::Went => {}
             Step::Told(moment) => {
