@@ -23,9 +23,9 @@ use tool_texts::status::Status;
 /// Writes what an audit says of the program of a file, of the runs from the starts of another one, and of an observer;
 /// and after it for each level that does not flow to the observer how many relevant mitigations a run begins and the
 /// least of their first predictions, the sharp count of that, its bits, what it means for guessing, the counts by shared
-/// time and by own first predictions where relevant mitigates stand apart, and whether all this holds of who sees runs end. On a machine that a file
-/// describes a line stands in front that tells how it is shared; where all labels share it, what the runs show is told alone,
-/// and that no bound is. It stops where and as an audit does.
+/// time and by own first predictions where relevant mitigates stand apart, and whether all this holds of who sees runs
+/// end. On a machine that a file describes a line stands in front that tells how it is shared; where all labels share it,
+/// what the runs show is told alone, and that no bound is. It stops where and as an audit does.
 ///
 /// `answered`: the status and the text are the answer, in the order of its refusals, from what the shelf is told to
 /// hold. A file may not be read only where the count of its faults rose. After a fault of the sink a prefix of the text
@@ -36,8 +36,8 @@ use tool_texts::status::Status;
 /// `complete`: what can be done is done, want of memory aside, where no count of faults rose.
 ///
 /// `enough`: the sharp count is at least the number of different sequences that the report counts, and where the end is
-/// counted, at least that of the pairs of a sequence and an end. So are the counts by shared time and by own first predictions
-/// where they are told.
+/// counted, at least that of the pairs of a sequence and an end. So are the counts by shared time and by own first
+/// predictions where they are told.
 pub fn bound<S: Shelf, W: Sink>(
     alloc: Global,
     shelf: &mut S,

@@ -11,8 +11,8 @@ use tool_stages::laws::partitioned_keep_the_laws;
 
 /// A law: on a machine with partitions the sharp count of what is told of the levels bounds the number of different sequences
 /// that the report counts, and what seeing one of them is worth to somebody who guesses the start; where the end is counted,
-/// so it does where the ends are seen too. Where relevant mitigates stand apart, so do the counts
-/// by shared time and by own first predictions, which are no greater.
+/// so it does where the ends are seen too. Where relevant mitigates stand apart, so do the counts by shared time and by own
+/// first predictions, which are no greater.
 pub fn sharp_counts_are_enough()
     ensures { AllAreEnough }
 {
@@ -31,8 +31,8 @@ pub fn sharp_counts_bound_others()
     lowered_few_sequences_sharp_of_histories();
 }
 
-/// A law: so does the count by own first predictions, where no relevant mitigation of the other starts has a first prediction below
-/// the one that is listed at its place.
+/// A law: so does the count by own first predictions, where no relevant mitigation of the other starts has a first
+/// prediction below the one that is listed at its place.
 pub fn own_counts_bound_others()
     ensures { AllBoundOthersOwn }
 {
