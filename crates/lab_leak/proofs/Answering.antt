@@ -21,20 +21,25 @@ use Rattle.tool_texts.proofs.EndLemmas.{broke_map, ends_done}
 use Rattle.tool_stages.specs.Content.{Content}
 use Rattle.tool_stages.specs.Goes.{CanBeAudited, OfObserver}
 use Rattle.tool_stages.specs.Envs.{hardware_of, ReportsIn}
-use Rattle.tool_stages.proofs.ChainLemmas.{prepared_done, prepares_no_fault}
+use Rattle.tool_stages.specs.Stages.{Then, StartsAre}
+use Rattle.tool_stages.proofs.GoesLemmas.{then_goes_from}
+use Rattle.tool_stages.proofs.ChainLemmas.{compiles_go, compiles_no_fault}
+use Rattle.space_stage.specs.Given.{GivenValue, GivenIs, GivenStops}
+use Rattle.space_stage.proofs.Once.{one_given, given_or_stop}
+use Rattle.space_leak.proofs.Once.{no_write_fault, no_read_fault}
 use Rattle.audit_stage.specs.Audited.{AuditStops}
 use Rattle.audit_stage.proofs.Once.{audit_goes}
 use Rattle.machine_stage.specs.Lines.{machine_head}
 use Rattle.lab_bound.specs.Text.{sharp_of, SharedPut, IsSharedText, IsOwnText, TextPut}
-use Rattle.lab_leak.specs.Answer.{HasLeak, Leaks, IsLeakAnswer, sequences_in}
+use Rattle.lab_leak.specs.Answer.{HasLeak, HasLeakOf, Leaks, IsLeakAnswer, sequences_in}
 use Rattle.lab_leak.specs.declared.sizes.ClassSizes.{ClassSizes}
 use Rattle.lab_leak.specs.Classes.{AreSizes, classes_of_runs, sizes_of}
 use Rattle.lab_leak.specs.Complete.{CanLeak}
 use Rattle.lab_leak.specs.Text.{HasCounts, TopBy, IsLeakText, class_lines, head_lines}
 
 -- what comes after the stages
-abbrev pub leak_next : Environment → ℕ → Syntax → LabelledProgram → Option Label → Code → List StartValue → Status → List ℕ → Type 0
-leak_next e t p q o code ss = HasLeak e t q o ss
+abbrev pub leak_next : Type 0 → Option (Option (List ℕ)) → Environment → ℕ → Syntax → LabelledProgram → Option Label → Code → Status → List ℕ → Type 0
+leak_next Rose held e t p q o code = Then (GivenStops Rose held p) (GivenIs held p) (λ g. HasLeakOf e t q o g)
 
 -- the first lines on a machine with partitions
 pub counts_put : (t : ℕ) (q : LabelledProgram) (l : Label) (xs ss : List StartValue) (r : AuditReport) (levels found : List LevelRuns) (order : Order)
@@ -94,10 +99,20 @@ no_fault_in e t q None ss x h = h
 no_fault_in e t q (Some l) ss x (inl h) = h
 no_fault_in e t q (Some l) ss x (inr (r, is, h)) = cc (h.0)
 
+no_fault_of : (e : Environment) (t : ℕ) (q : LabelledProgram) (o : Option Label) (g : GivenValue) (x : List ℕ) → HasLeakOf e t q o g status.WriteFault x → ⊥
+no_fault_of e t q o (inl ss) x h = no_fault_in e t q o ss x h
+no_fault_of e t q o (inr s) x h = no_write_fault e t q o s x h
+
+no_fault_next : (Rose : Type 0) (held : Option (Option (List ℕ))) (e : Environment) (t : ℕ) (p : Syntax) (q : LabelledProgram) (o : Option Label) (code : Code)
+    (x : List ℕ) → leak_next Rose held e t p q o code status.WriteFault x → ⊥
+no_fault_next Rose held e t p q o code x (inl h) = h
+no_fault_next Rose held e t p q o code x (inr (g, is, h)) = no_fault_of e t q o g x h
+
 pub leak_no_fault : (Rises : List ℕ → Type 0) (content : Content) (file starts observer : List ℕ) (e : Environment) (t : ℕ) (x : List ℕ)
     → Leaks Rises content file starts observer e t status.WriteFault x → ⊥
 leak_no_fault Rises content file starts observer e t x =
-    prepares_no_fault Rises content file observer (Rises starts) (content starts) (leak_next e t) x (λ p q o code ss. no_fault_in e t q o ss x)
+    compiles_no_fault Rises content file (Some observer) (leak_next (Rises starts) (content starts) e t) x
+    (λ p q o code. no_fault_next (Rises starts) (content starts) e t p q o code x)
 
 -- ---- no answer to a program that is prepared is a read fault
 
@@ -106,6 +121,11 @@ pub no_read_in : (e : Environment) (t : ℕ) (q : LabelledProgram) (o : Option L
 no_read_in e t q None ss x h = h
 no_read_in e t q (Some l) ss x (inl h) = h
 no_read_in e t q (Some l) ss x (inr (r, is, h)) = cc (h.0)
+
+pub no_read_of : (e : Environment) (t : ℕ) (q : LabelledProgram) (o : Option Label) (g : GivenValue) (x : List ℕ)
+    → HasLeakOf e t q o g status.ReadFault x → ⊥
+no_read_of e t q o (inl ss) x h = no_read_in e t q o ss x h
+no_read_of e t q o (inr s) x h = no_read_fault e t q o s x h
 
 -- ---- what can be done is done
 
@@ -121,6 +141,11 @@ pub completes : (old new : Option (List ℕ)) (Rises : List ℕ → Type 0) (con
     CanLeak content file starts observer e t → (Rises file → ⊥) → (Rises starts → ⊥) → (Rose → ⊥) → (r ≡ status.Done) ⊎ (r ≡ status.Memory)
 completes old new Rises content file starts observer e t r Rose ends write can one other n =
     ends_done old new Nothing (IsLeakAnswer Rises content file starts observer e t) r ends (λ w. n (write w))
-    (λ x h. prepared_done r h.0 Rises content file observer (Rises starts) (content starts)
-    (λ q o ss. OfObserver (λ l. CanBeAudited e t q l ss) o) (leak_next e t)
-    one can.known other can.known_starts can.goes (λ p q o code ss good next. leak_done e t q o ss r h.0 good next) h.1)
+    (λ x h.
+    compiles_go Rises content file (Some observer)
+    (λ p q o. (ss : List StartValue) × StartsAre (content starts) p ss × OfObserver (λ l. CanBeAudited e t q l ss) o)
+    (leak_next (Rises starts) (content starts) e t) r h.0 one can.known can.goes
+    (λ p q o code image good next.
+    then_goes_from (GivenStops (Rises starts) (content starts) p) (GivenIs (content starts) p) (λ g. HasLeakOf e t q o g) r h.0 (inl good.0) good.1
+    (one_given (content starts) can.known_starts p) (given_or_stop (content starts) can.known_starts p (Rises starts) (inl good.0) r h.0 other good.1)
+    (leak_done e t q o good.0 r h.0 good.2) next) h.1)

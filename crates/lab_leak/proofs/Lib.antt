@@ -6,3 +6,4 @@ pub mod Writing
 pub mod Answering
 pub mod Single
 pub mod Ordered
+pub mod Given

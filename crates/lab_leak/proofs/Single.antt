@@ -18,14 +18,17 @@ use Rattle.tool_texts.specs.declared.status.Status.{Status}
 use Rattle.tool_texts.specs.Texts.{number_line}
 use Rattle.tool_texts.specs.Reports.{label_line, bound_line}
 use Rattle.tool_stages.specs.Envs.{hardware_of}
-use Rattle.tool_stages.proofs.OneLemmas.{Same}
-use Rattle.tool_stages.proofs.ChainLemmas.{prepares_one}
+use Rattle.tool_stages.proofs.OneLemmas.{Same, then_one}
+use Rattle.tool_stages.proofs.ChainLemmas.{compiles_one}
+use Rattle.space_stage.specs.Given.{GivenValue, GivenIs, GivenStops}
+use Rattle.space_stage.proofs.Once.{one_given, given_or_stop, one_given_stop}
+use Rattle.space_leak.proofs.Once.{one_space_leak}
 use Rattle.machine_stage.specs.Lines.{machine_head, no_bound_line}
 use Rattle.lab_texts.proofs.LabLemmas.{one_in_lab}
 use Rattle.audit_stage.proofs.Once.{audit_stops, one_audit_stop, same_report, not_fault}
 use Rattle.lab_bound.specs.Text.{sharp_of}
 use Rattle.lab_bound.proofs.Single.{one_told, one_shared, one_own, same_shown_head}
-use Rattle.lab_leak.specs.Answer.{HasLeak, Leaks, sequences_in}
+use Rattle.lab_leak.specs.Answer.{HasLeak, HasLeakOf, Leaks, sequences_in}
 use Rattle.lab_leak.specs.Classes.{classes_of_runs, sizes_of}
 use Rattle.lab_leak.specs.Complete.{HasOneLeak}
 use Rattle.lab_leak.specs.Text.{HasCounts, TopBy, IsLeakText, class_lines, head_lines, sharp_line}
@@ -78,9 +81,19 @@ one_leak e t q (Some l) ss s u x y (inr h) (inr k) = (
       (same_report e q l.number t ss h.0 k.0 h.1 k.1) h.2.1 k.2.1,
 )
 
+one_leak_of : (e : Environment) (t : ℕ) (q : LabelledProgram) (o : Option Label) (g : GivenValue) (s u : Status) (x y : List ℕ) → HasLeakOf e t q o g s x
+    → HasLeakOf e t q o g u y → Same s u x y
+one_leak_of e t q o (inl ss) s u x y h k = one_leak e t q o ss s u x y h k
+one_leak_of e t q o (inr z) s u x y h k = one_space_leak e t q o z s u x y h k
+
 pub one_leak_in_lab : HasOneLeak
 one_leak_in_lab content before now file starts observer e t s u x y known known_starts one other h k =
     let rises = λ (name : List ℕ). Rose (before name) (now name) in
     one_in_lab (Leaks rises content file starts observer e t) s u x y
-    (λ m n a b. prepares_one s u m n rises content file observer (rises starts) (content starts) (leak_next e t) one known other known_starts
-    (λ p q o code ss. one_leak e t q o ss s u m n) a b) h k
+    (λ m n a b.
+    compiles_one s u m n rises content file (Some observer) (leak_next (rises starts) (content starts) e t) one known
+    (λ p q o code.
+    then_one (GivenStops (rises starts) (content starts) p) (GivenIs (content starts) p) (λ g. HasLeakOf e t q o g) s u m n
+    (one_given_stop (content starts) known_starts p (rises starts) s u m n other)
+    (λ g v z is. given_or_stop (content starts) known_starts p (rises starts) g v z other is) (one_given (content starts) known_starts p)
+    (λ g is. one_leak_of e t q o g s u m n)) a b) h k

@@ -1,8 +1,10 @@
 -- The answer of `leak`: its status and its text, from what the files are told to hold.
 use Rattle.std.specs.Prelude.{◌≡◌, ℕ, List, Option, Some, None, map}
+use Rattle.std.proofs.Common.{inl, inr}
 use Rattle.label_lattice.specs.declared.label.Label.{Label}
 use Rattle.timing_types.specs.Labelled.{LabelledProgram}
 use Rattle.label_code.specs.Machine.{Event}
+use Rattle.label_code.specs.Shaped.{Code}
 use Rattle.start_file.specs.Starts.{StartValue}
 use Rattle.history_bound.specs.Over.{history_made}
 use Rattle.leak_audit.specs.Agreement.{starts_of}
@@ -12,10 +14,12 @@ use Rattle.tool_texts.specs.declared.status.Status.{Status}
 use Rattle.tool_texts.specs.declared.status.Status.TheVariants as status
 use Rattle.tool_stages.specs.Content.{Content}
 use Rattle.tool_stages.specs.Stages.{Then}
-use Rattle.tool_stages.specs.Begins.{Prepares}
+use Rattle.tool_stages.specs.Begins.{Compiles, CanAudit}
 use Rattle.tool_stages.specs.Envs.{environment, ReportsIn}
 use Rattle.lab_texts.specs.InLab.{InLab}
 use Rattle.audit_stage.specs.Audited.{AuditStops}
+use Rattle.space_stage.specs.Given.{GivenValue, GivenIs, GivenStops}
+use Rattle.space_leak.specs.Answer.{CanWalk, HasSpaceLeak}
 use Rattle.lab_leak.specs.Classes.{classes_of_runs}
 use Rattle.lab_leak.specs.Text.{IsLeakText}
 
@@ -30,12 +34,23 @@ HasLeak e t q (Some l) ss =
     Then (AuditStops e t q l ss) (ReportsIn e q l.number t ss) (λ r s x.
     (s ≡ status.Done) × IsLeakText e q l t ss r (classes_of_runs (sequences_in e t q l.number ss)) x)
 
--- What is told, in the order of its refusals, which are those of an audit. `Rises` tells the names whose counts of
--- faults rose.
+-- of the starts that a file gives, in a list or as a space
+abbrev pub HasLeakOf : Environment → ℕ → LabelledProgram → Option Label → GivenValue → Status → List ℕ → Type 0
+HasLeakOf e t q o (inl ss) = HasLeak e t q o ss
+HasLeakOf e t q o (inr s) = HasSpaceLeak e t q o s
+
+-- what that asks of a compiled program
+abbrev pub CanLeakOf : LabelledProgram → Label → Code → GivenValue → Type 0
+CanLeakOf q l code (inl ss) = CanAudit q l code ss
+CanLeakOf q l code (inr s) = CanWalk q l code s
+
+-- What is told, in the order of its refusals, which of a list of starts are those of an audit. `Rises` tells the names whose
+-- counts of faults rose.
 abbrev pub Leaks : (List ℕ → Type 0) → Content → List ℕ → List ℕ → List ℕ → Environment → ℕ → Status → List ℕ → Type 0
 Leaks Rises content file starts observer e t =
-    Prepares Rises content file observer (Rises starts) (content starts) (λ p q o code ss.
-    HasLeak e t q o ss)
+    Compiles Rises content file (Some observer) (λ p q o code.
+    Then (GivenStops (Rises starts) (content starts) p) (GivenIs (content starts) p) (λ g.
+    HasLeakOf e t q o g))
 
 -- the answer of `leak`
 abbrev pub IsLeakAnswer : (List ℕ → Type 0) → Content → List ℕ → List ℕ → List ℕ → Environment → ℕ → Status → List ℕ → Type 0

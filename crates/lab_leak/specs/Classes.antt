@@ -5,6 +5,7 @@ use Rattle.class_counts.specs.Tally.{tally}
 use Rattle.leak_bound.specs.Records.{distinct_count}
 use Rattle.leak_audit.specs.Sequences.{same_sequence}
 use Rattle.leak_classes.specs.Classes.{Classes, no_classes, with_start}
+pub use Rattle.space_leak.specs.Text.{sizes_of}
 use Rattle.lab_leak.specs.declared.sizes.ClassSizes.{ClassSizes}
 
 -- these classes after the runs that show these sequences, the first of which has the number n, from 0; each has weight 1
@@ -15,10 +16,6 @@ classes_from k n (z ∷ zs) = classes_from (with_start k n z 1) (n + 1) zs
 -- the classes of the runs that show these sequences
 abbrev pub classes_of_runs : List (List Event) → Classes
 classes_of_runs zs = classes_from no_classes 0 zs
-
--- how many runs each class has
-abbrev pub sizes_of : Classes → List ℕ
-sizes_of k = map (λ c. c.1) k.seen
 
 -- what the runs of each class show
 abbrev pub shown_by : Classes → List (List Event)

@@ -2,12 +2,9 @@
 use Rattle.std.specs.Prelude.{◌≡◌, ℕ, List, [], ◌∷◌, ◌++◌, Option, Some, None, codes, decimal}
 use Rattle.label_lattice.specs.declared.label.Label.{Label}
 use Rattle.label_lattice.specs.Order.{Order}
-use Rattle.mit_syntax.specs.Declarations.{Declaration}
 use Rattle.timing_types.specs.Labelled.{LabelledProgram}
-use Rattle.label_code.specs.Machine.{Event}
 use Rattle.sharp_count.specs.declared.count.LevelRuns.{LevelRuns}
 use Rattle.sharp_count.specs.Count.{fitting}
-use Rattle.seen_line.specs.Field.{field_text}
 use Rattle.leak_audit.specs.declared.report.AuditReport.{AuditReport}
 use Rattle.leak_classes.specs.Classes.{Classes}
 use Rattle.leak_numbers.specs.Numbers.{AreNumbers}
@@ -22,6 +19,7 @@ use Rattle.level_counts.specs.Begun.{AreTold, memories_of}
 use Rattle.tool_stages.specs.declared.envs.Environment.{Environment}
 use Rattle.tool_stages.specs.Envs.{hardware_of}
 use Rattle.machine_stage.specs.Lines.{machine_head, no_bound_line}
+pub use Rattle.space_leak.specs.Text.{class_line, class_lines}
 use Rattle.lab_leak.specs.Classes.{sizes_of}
 
 -- `sharp N`; N is told where it is below 2^128
@@ -34,16 +32,6 @@ abbrev pub head_lines : Order → Label → ℕ → AuditReport → Option ℕ �
 head_lines order l t r sharp =
     number_line (codes "runs ") r.runs ++ (label_line (codes "observer ") order l
     ++ (number_line (codes "budget ") t ++ (bound_line r.measures.base r.measures.exponent ++ sharp_line sharp)))
-
--- `class SIZE first RUN`, a tab, and the field of what the class shows
-abbrev pub class_line : List Declaration → List Event → ℕ → ℕ → List ℕ
-class_line ds shown size first =
-    codes "class " ++ (decimal size ++ (codes " first " ++ (decimal first ++ (codes "\t" ++ (field_text ds shown ++ codes "\n")))))
-
--- a line for each class, in the order of their first runs
-abbrev pub class_lines : List Declaration → List (List Event × ℕ) → List ℕ → List ℕ
-class_lines ds (c ∷ cs) (f ∷ fs) = class_line ds c.0 c.1 f ++ class_lines ds cs fs
-class_lines ds _ _ = []
 
 -- On a machine with partitions: the first lines, of an audit's report and what is told of the levels. The lines of the counts
 -- by shared time and by own first predictions, if there are any, stand below that of the sharp count.

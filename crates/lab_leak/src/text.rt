@@ -12,7 +12,8 @@ ghost use Rattle.tool_stages.specs.Accepted.{is_past_typing, IsAccepted};
 ghost use Rattle.tool_stages.specs.Fetches.{Fetches};
 ghost use Rattle.tool_stages.specs.Envs.{hardware_of, ReportsIn};
 ghost use Rattle.lab_bound.specs.Text.{TextPut};
-ghost use Rattle.lab_leak.specs.Answer.{HasLeak, Leaks, sequences_in};
+ghost use Rattle.space_stage.specs.Given.{value_of};
+ghost use Rattle.lab_leak.specs.Answer.{HasLeak, HasLeakOf, CanLeakOf, Leaks, sequences_in};
 ghost use Rattle.lab_leak.specs.Classes.{classes_of_runs};
 ghost use Rattle.lab_leak.specs.Text.{HasCounts, TopBy, IsLeakText};
 
@@ -22,6 +23,7 @@ use crate::sizes::sizes;
 use audit_stage::audited::audited;
 use lab_bound::own::put_own;
 use lab_bound::shared::put_shared;
+use label_lattice::label::Label;
 use leak_audit::report::AuditReport;
 use leak_numbers::numbers::put_numbers;
 use level_counts::levels::level_counts;
@@ -30,10 +32,13 @@ use machine_stage::lines::sharing;
 use part_tlb::bank::Sharing;
 use run_watch::Watch;
 use sharp_count::count::{Runs, sharp_count};
+use space_leak::leak::space_leak;
+use space_stage::given::{StartSet, given};
 use std::alloc::Global;
 use text_base::pos::Memory;
 use tim_base::shelf::Shelf;
-use tool_stages::prepared::{Prepared, prepare};
+use tool_stages::compiled::{Compiled, compile};
+use tool_stages::prepared::Prepared;
 use tool_stages::setting::Setting;
 use tool_texts::stop::{Stop, no_memory};
 
@@ -134,7 +139,44 @@ fn prepared_text<W: Watch>(
     }
 }
 
-/// The text of `leak` for the program of a file and the starts of another one. A watch is told how far each run has come.
+// The text of a compiled program and of what a start file gives.
+fn given_text<W: Watch>(
+    alloc: Global,
+    compiled: Compiled,
+    observer: Label,
+    given: StartSet,
+    setting: Setting,
+    watch: &W,
+) -> Result<Vec<u8>, Stop>
+    requires fit { CanLeakOf compiled.typed.labelled observer compiled.image (value_of given) }
+    requires cycles { IsCycles setting.budget }
+    ensures text { IfOk result (λ v. HasLeakOf setting.env setting.budget compiled.typed.labelled (Some observer) (value_of given) status.Done v.items) }
+    ensures stop { IfErr result (IsStop (HasLeakOf setting.env setting.budget compiled.typed.labelled (Some observer) (value_of given))) }
+{
+    match given {
+        StartSet::List(starts) => {
+            let prepared = Prepared {
+                compiled,
+                observer,
+                starts,
+            };
+            match prepared_text(alloc, &prepared, setting, watch) {
+                Ok(text) => Ok(text),
+                Err(stop) => Err(stop),
+            }
+        }
+        StartSet::Space(space) => {
+            let (p, image) = (compiled.typed.labelled(), &compiled.image);
+            match space_leak(alloc, p, image, observer, &space, setting, watch) {
+                Ok(text) => Ok(text),
+                Err(stop) => Err(stop),
+            }
+        }
+    }
+}
+
+/// The text of `leak` for the program of a file and the starts of another one, which lists them or gives a space. A watch is
+/// told how far each run has come.
 ///
 /// # Errors
 /// Stops with the first refusal, or with `Memory`.
@@ -158,11 +200,16 @@ pub(crate) fn leak_text<S: Shelf, W: Watch>(
     ensures accepted { OnOk result (IsAccepted (S.content shelf.old file.now)) }
     ensures accepted_stop { IfErr result (λ e. IsTrue (is_past_typing (status_of e)) → IsAccepted (S.content shelf.old file.now)) }
 {
-    let prepared = match prepare(alloc, shelf, file, starts, name) {
-        Ok(prepared) => prepared,
+    let compiled = match compile(alloc, shelf, file, Some(name)) {
+        Ok(compiled) => compiled,
         Err(stop) => return Err(stop),
     };
-    match prepared_text(alloc, &prepared, setting, watch) {
+    let observer = compiled.observer.unwrap();
+    let given = match given(alloc, shelf, starts, compiled.typed.labelled().program()) {
+        Ok(given) => given,
+        Err(stop) => return Err(stop),
+    };
+    match given_text(alloc, compiled, observer, given, setting, watch) {
         Ok(text) => Ok(text),
         Err(stop) => Err(stop),
     }

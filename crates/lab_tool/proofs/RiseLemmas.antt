@@ -13,7 +13,8 @@ use Rattle.tool_stages.specs.Content.{Content}
 use Rattle.tool_stages.specs.Stages.{ProgramStops}
 use Rattle.tool_stages.proofs.StopLemmas.{start_rise}
 use Rattle.lab_bound.specs.Answer.{HasBound}
-use Rattle.lab_leak.specs.Answer.{HasLeak}
+use Rattle.lab_leak.specs.Answer.{Leaks}
+use Rattle.space_stage.proofs.Stops.{given_rise}
 use Rattle.lab_runs.specs.Shown.{OfRuns, ShowsRuns}
 use Rattle.lab_seen.specs.Seen.{AreLines}
 use Rattle.lab_timeline.specs.Timed.{AreTimelines}
@@ -78,6 +79,18 @@ module _ (Rises Rises' : List ℕ → Type 0) (content : Content) (rise : (name 
   shows_rise refused file starts observer IsText s t (inr (p, reads, inr (o, sees, inr (x, shows, inr (code, image, inr h))))) =
       inr (p, reads, inr (o, sees, inr (x, shows, inr (code, image, inr h))))
 
+  leaks_rise : (e : Environment) (t : ℕ) (file starts observer : List ℕ) (s : Status) (x : List ℕ) → Leaks Rises content file starts observer e t s x
+      → Leaks Rises' content file starts observer e t s x
+  leaks_rise e t file starts observer s x (inl h) = inl (program_rise (Rises file) (Rises' file) (content file) s x (rise file) h)
+  leaks_rise e t file starts observer s x (inr (p, reads, inl h)) = inr (p, reads, inl h)
+  leaks_rise e t file starts observer s x (inr (p, reads, inr (o, sees, inl h))) = inr (p, reads, inr (o, sees, inl h))
+  leaks_rise e t file starts observer s x (inr (p, reads, inr (o, sees, inr (q, types, inl h)))) = inr (p, reads, inr (o, sees, inr (q, types, inl h)))
+  leaks_rise e t file starts observer s x (inr (p, reads, inr (o, sees, inr (q, types, inr (code, image, inl h))))) =
+      let stop = given_rise (Rises starts) (Rises' starts) (content starts) p s x (rise starts) h in
+      inr (p, reads, inr (o, sees, inr (q, types, inr (code, image, inl stop))))
+  leaks_rise e t file starts observer s x (inr (p, reads, inr (o, sees, inr (q, types, inr (code, image, inr h))))) =
+      inr (p, reads, inr (o, sees, inr (q, types, inr (code, image, inr h))))
+
   -- what answers it answers it
   pub answer_rises : (e : Environment) (a : Asked) (s : Status) (t : List ℕ) → IsAnswerIn e Rises content a s t → IsAnswerIn e Rises' content a s t
   answer_rises e (why file None) s t (inl h) = inl (why_rise (Rises file) (Rises' file) (content file) s t (rise file) h)
@@ -95,6 +108,6 @@ module _ (Rises Rises' : List ℕ → Type 0) (content : Content) (rise : (name 
       (m, inr (costing, of, inl (program_rise (Rises file) (Rises' file) (content file) s m (rise file) h)), is)
   answer_rises e (steady file observer parts constant whole) s t (m, inr (costing, of, inr h), is) = (m, inr (costing, of, inr h), is)
   answer_rises e (leak file starts observer machine budget) s t h =
-      (h.0, prepares_rise file starts observer (λ p q o code ss. HasLeak e budget q o ss) s h.0 h.1, h.2)
+      (h.0, leaks_rise e budget file starts observer s h.0 h.1, h.2)
   answer_rises e (help command) s t h = h
   answer_rises e version s t h = h

@@ -14,7 +14,7 @@ mod text;
 mod words_tests;
 
 // The tables, in the order in which they are run.
-const TABLES: [&str; 29] = [
+const TABLES: [&str; 30] = [
     "examples.txt",
     "texts.txt",
     "grammar.txt",
@@ -41,6 +41,7 @@ const TABLES: [&str; 29] = [
     "lab-bounds.txt",
     "lab-steady.txt",
     "lab-leaks.txt",
+    "lab-spaces.txt",
     "lab-machines.txt",
     "lab-faults.txt",
     "lab-words.txt",
