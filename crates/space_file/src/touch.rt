@@ -137,7 +137,7 @@ pub(crate) fn touches(
         return Ok(Vec::new(alloc));
     };
     match value {
-        Value::Array(values) => { all_touches(alloc, &program.lattice(), values.as_slice()) }
+        Value::Array(values) => { all_touches(alloc, program.lattice(), values.as_slice()) }
         _ => Err(SpaceFault::BadTouch),
     }
 }

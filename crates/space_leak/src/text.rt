@@ -37,7 +37,7 @@ pub(crate) fn space_text(
     machine::put_head(&mut text, setting.env)?;
     let program = p.program();
     let order = program.lattice();
-    put_head(&mut text, &order, observer, setting.budget, size)?;
+    put_head(&mut text, order, observer, setting.budget, size)?;
     put_numbers(&mut text, size, known.classes.values().as_slice())?;
     put_classes(&mut text, program, known)?;
     Ok(text)
