@@ -22,7 +22,7 @@ pub returns : goal.returns
 returns c = λ s many.
     let entries = c.args.known.now.classes.entries in
     let sizes = c.as_slice.ensures ∙ c.values.ensures.rest ∙ sym (sizes_shown entries) in
-    space_put c.args.setting.env c.args.p.now c.args.observer c.args.setting.budget c.args.size c.lattice-order.result s (classes_of c.args.known.now)
+    space_put c.args.setting.env c.args.p.now c.args.observer c.args.setting.budget c.args.size c.lattice-order.result.now s (classes_of c.args.known.now)
     c.as_slice.result.now c.new-text.result.items c.put_head.new.text.items c.put_head-2.new.text.items c.put_numbers.new.text.items
     c.put_classes.new.text.items many (c.lattice-order.ensures ∙ ap (λ p. p.order) c.program-program.ensures.program) sizes c.new-text.ensures.items
     c.in_ok-put_head.ensures c.in_ok-put_head-2.ensures c.in_ok-put_numbers.ensures
