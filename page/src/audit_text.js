@@ -51,7 +51,8 @@ function holdsFor(report, isCut, sharp, observer) {
   const agree = `for all starts that agree with these at or below ${observer}`;
   if (isCut) return ` The bound holds ${agree}, and with which no more relevant mitigations end by then.`;
   if (sharp?.sharp === undefined) return ` The bound holds ${agree}, and halt by then.`;
-  return ` Both limits hold ${agree}, and halt by then; the sharp count, where besides no relevant mitigation of theirs`
+  const [all, counts] = sharedBox(sharp) === '' ? ['Both', 'the sharp count,'] : ['All', 'both counts'];
+  return ` ${all} limits hold ${agree}, and halt by then; ${counts} where besides no relevant mitigation of theirs`
     + ` has a first prediction below the least of its ${term('level')} here.`;
 }
 

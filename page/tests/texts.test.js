@@ -119,6 +119,9 @@ test('the numbers, and what they are', () => {
     /417 225 900at most, by the sharp count: 29 bits23 603 879at most, by shared time: 25 bits2\^20at most/);
   assert.match(found({ report, sharp: { ...login, shared: 40n } }), /; at most 40 are possible\.$/);
   assert.doesNotMatch(auditBoxes({ report, sharp: { ...sharp, shared: 16n } }), /shared time/);
+  const holds = (counts) => plain(auditWords({ report, sharp: counts }, labels, { observer: 'L' }));
+  assert.match(holds(login), / All limits hold .*; both counts where besides no relevant mitigation /);
+  assert.match(holds(sharp), / Both limits hold .*; the sharp count, where besides no relevant mitigation /);
   const three = { ...report, base: 3, distinct: 1, runs: 1 };
   assert.equal(
     plain(auditBoxes({ report: three, sharp: null }).replaceAll('</div>', '; ')),
