@@ -31,11 +31,12 @@ use Rattle.audit_stage.specs.Audited.{AuditStops}
 use Rattle.audit_stage.proofs.Once.{audit_goes}
 use Rattle.machine_stage.specs.Lines.{machine_head}
 use Rattle.lab_bound.specs.Text.{sharp_of, SharedPut, IsSharedText, IsOwnText, TextPut}
+use Rattle.space_leak.specs.Text.{class_lines, sizes_of}
 use Rattle.lab_leak.specs.Answer.{HasLeak, HasLeakOf, Leaks, IsLeakAnswer, sequences_in}
 use Rattle.lab_leak.specs.declared.sizes.ClassSizes.{ClassSizes}
-use Rattle.lab_leak.specs.Classes.{AreSizes, classes_of_runs, sizes_of}
+use Rattle.lab_leak.specs.Classes.{AreSizes, classes_of_runs}
 use Rattle.lab_leak.specs.Complete.{CanLeak}
-use Rattle.lab_leak.specs.Text.{HasCounts, TopBy, IsLeakText, class_lines, head_lines}
+use Rattle.lab_leak.specs.Text.{HasCounts, TopBy, IsLeakText, head_lines}
 
 -- what comes after the stages
 abbrev pub leak_next : Type 0 → Option (Option (List ℕ)) → Environment → ℕ → Syntax → LabelledProgram → Option Label → Code → Status → List ℕ → Type 0

@@ -20,7 +20,7 @@ use Rattle.lab_runs.proofs.TextLemmas.{map-from}
 use Rattle.lab_seen.specs.Seen.{line_text}
 use Rattle.lab_leak.specs.Answer.{sequences_in}
 use Rattle.lab_leak.specs.Classes.{AreFirsts}
-use Rattle.lab_leak.specs.Text.{class_line, class_lines}
+use Rattle.space_leak.specs.Text.{class_line, class_lines}
 
 -- ---- members of lists by their places
 

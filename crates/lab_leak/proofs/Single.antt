@@ -28,10 +28,11 @@ use Rattle.lab_texts.proofs.LabLemmas.{one_in_lab}
 use Rattle.audit_stage.proofs.Once.{audit_stops, one_audit_stop, same_report, not_fault}
 use Rattle.lab_bound.specs.Text.{sharp_of}
 use Rattle.lab_bound.proofs.Single.{one_told, one_shared, one_own, same_shown_head}
+use Rattle.space_leak.specs.Text.{class_lines, sizes_of}
 use Rattle.lab_leak.specs.Answer.{HasLeak, HasLeakOf, Leaks, sequences_in}
-use Rattle.lab_leak.specs.Classes.{classes_of_runs, sizes_of}
+use Rattle.lab_leak.specs.Classes.{classes_of_runs}
 use Rattle.lab_leak.specs.Complete.{HasOneLeak}
-use Rattle.lab_leak.specs.Text.{HasCounts, TopBy, IsLeakText, class_lines, head_lines, sharp_line}
+use Rattle.lab_leak.specs.Text.{HasCounts, TopBy, IsLeakText, head_lines, sharp_line}
 use Rattle.lab_leak.proofs.Answering.{leak_next}
 
 same_head : (q : LabelledProgram) (l : Label) (t : ℕ) (r s : AuditReport) (sharp : Option ℕ) → SameReport r s

@@ -10,8 +10,9 @@ use Rattle.leak_bound.specs.Records.{distinct, place_in, classes_of}
 use Rattle.leak_audit.specs.Sequences.{same_sequence, Classed}
 use Rattle.leak_audit.proofs.Classing.{tests_sequences, none_classed, one_classed, all_classed}
 use Rattle.leak_classes.specs.Classes.{Classes, no_classes, with_start}
+use Rattle.space_leak.specs.Text.{sizes_of}
 use Rattle.lab_leak.specs.declared.sizes.ClassSizes.{ClassSizes}
-use Rattle.lab_leak.specs.Classes.{classes_from, classes_of_runs, sizes_of, shown_by, AreSizes}
+use Rattle.lab_leak.specs.Classes.{classes_from, classes_of_runs, shown_by, AreSizes}
 use Rattle.lab_leak.proofs.Counting.{Grows, grown, shown_add, firsts_same, firsts_more}
 
 -- ---- one run more

@@ -3,7 +3,8 @@ use Rattle.std.proofs.Common.{◌≡◌, ◌<◌, ◌≤◌, ◌+◌, ◌-◌, �
 use Rattle.std.proofs.lemmas.List.{drop-map, length-map}
 use Rattle.label_code.specs.Machine.{Event}
 use Rattle.leak_classes.specs.Classes.{Classes}
-use Rattle.lab_leak.specs.Classes.{classes_of_runs, sizes_of}
+use Rattle.space_leak.specs.Text.{sizes_of}
+use Rattle.lab_leak.specs.Classes.{classes_of_runs}
 use Rattle.lab_leak.proofs.Members.{At, at_place, as_many, member_is}
 use Rattle.lab_leak.proofs.Tallied.{are_tallied}
 

@@ -5,7 +5,7 @@ use Rattle.class_counts.specs.Tally.{tally}
 use Rattle.leak_bound.specs.Records.{distinct_count}
 use Rattle.leak_audit.specs.Sequences.{same_sequence}
 use Rattle.leak_classes.specs.Classes.{Classes, no_classes, with_start}
-pub use Rattle.space_leak.specs.Text.{sizes_of}
+use Rattle.space_leak.specs.Text.{sizes_of}
 use Rattle.lab_leak.specs.declared.sizes.ClassSizes.{ClassSizes}
 
 -- these classes after the runs that show these sequences, the first of which has the number n, from 0; each has weight 1

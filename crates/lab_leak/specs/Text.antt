@@ -19,8 +19,7 @@ use Rattle.level_counts.specs.Begun.{AreTold, memories_of}
 use Rattle.tool_stages.specs.declared.envs.Environment.{Environment}
 use Rattle.tool_stages.specs.Envs.{hardware_of}
 use Rattle.machine_stage.specs.Lines.{machine_head, no_bound_line}
-pub use Rattle.space_leak.specs.Text.{class_line, class_lines}
-use Rattle.lab_leak.specs.Classes.{sizes_of}
+use Rattle.space_leak.specs.Text.{class_lines, sizes_of}
 
 -- `sharp N`; N is told where it is below 2^128
 abbrev pub sharp_line : Option ℕ → List ℕ

@@ -10,7 +10,7 @@ ghost use Rattle.tool_stages.specs.Begins.{CanAudit};
 ghost use Rattle.lab_seen.specs.Seen.{line_text};
 ghost use Rattle.lab_leak.specs.Answer.{sequences_in};
 ghost use Rattle.lab_leak.specs.Classes.{AreSizes, classes_of_runs};
-ghost use Rattle.lab_leak.specs.Text.{class_lines};
+ghost use Rattle.space_leak.specs.Text.{class_lines};
 
 use crate::sheet::Sheet;
 use crate::sizes::ClassSizes;
