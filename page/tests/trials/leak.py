@@ -137,7 +137,7 @@ def steady_and_refused(page):
     page.choose(3)
     told = steady(page, "steady/compare.mit")
     same(told[0], "steady", "what the lab says")
-    holds("no leak" in page.text("#sentence") and "No limit" not in page.text("#sentence"), page.text("#sentence"))
+    holds("no leak" in page.text("#sentence") and "no limit" not in page.text("#sentence").lower(), page.text("#sentence"))
     holds("this refusal is no leak" in page.text("#verdict-steady"), page.text("#verdict-steady"))
     holds(not page.run(HAS_COLOUR, "#verdict, #verdict *, #sentence, #sentence *", "bad"), "nothing is told in red")
     holds(page.run(HAS_COLOUR, "#steady-says .judgement", "good"), "the yes has its green")
@@ -176,7 +176,7 @@ def not_steady(page):
         page.browser.click(f'#steady-says [aria-label^="{name}, declared at"]')
         page.until(lambda: page.selected() == name, f"where {name} is declared")
     holds(page.run(HAS_COLOUR, "#verdict", "bad"), "a refusal that may be a leak is told in red")
-    holds("No limit holds" in page.text("#sentence"), page.text("#sentence"))
+    holds("no limit holds" in page.text("#sentence").lower(), page.text("#sentence"))
 
 
 def asked_where_accepted(page):
