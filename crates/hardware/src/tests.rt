@@ -110,24 +110,24 @@ fn costs_as_another_program_says(rt: HostRuntime) {
     let lattice = two_labels().expect(&rt, "a lattice");
     let alloc = rt.alloc();
     assert_eq!(rt;
-        empty(alloc, lattice, machine(None, Sharing::Partitioned), 0),
+        empty(alloc, &lattice, machine(None, Sharing::Partitioned), 0),
         None
     );
     assert_eq!(rt;
-        empty(alloc, lattice, machine(None, Sharing::Shared), 1),
+        empty(alloc, &lattice, machine(None, Sharing::Shared), 1),
         None
     );
     assert_eq!(rt;
         empty(
             alloc,
-            lattice,
+            &lattice,
             machine(Some(SECOND), Sharing::Partitioned),
             2
         ),
         None
     );
     assert_eq!(rt;
-        empty(alloc, lattice, machine(Some(SECOND), Sharing::Shared), 3),
+        empty(alloc, &lattice, machine(Some(SECOND), Sharing::Shared), 3),
         None
     );
 }
