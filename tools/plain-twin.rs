@@ -2999,6 +2999,8 @@ struct Watch {
     begun: u64,
     begun_of: [u64; MOST_LABELS],
     firsts: [u64; MOST_LABELS],
+    listed: Vec<Vec<u64>>,
+    places: [usize; MOST_LABELS],
     ended: u64,
 }
 
@@ -3015,6 +3017,12 @@ impl Listener for Watch {
             self.begun += 1;
             self.begun_of[level] += 1;
             self.firsts[level] = self.firsts[level].min(opened.predicts(0) as u64);
+            let (listed, place) = (&mut self.listed[level], self.places[level]);
+            match listed.get_mut(place) {
+                Some(least) => *least = (*least).min(opened.predicts(0) as u64),
+                None => listed.push(opened.predicts(0) as u64),
+            }
+            self.places[level] += 1;
         }
     }
 
@@ -3062,11 +3070,12 @@ struct Asked<'s> {
 }
 
 /// What is counted of the starts: of relevant mitigations those that the first run begins, all and by their levels, with the
-/// least first prediction of each level, and the most that end in a run; and the class of each run.
+/// least first prediction of each level, and of each place in it, and the most that end in a run; and the class of each run.
 struct Audit {
     begun: u64,
     begun_of: [u64; MOST_LABELS],
     firsts: [u64; MOST_LABELS],
+    listed: Vec<Vec<u64>>,
     most_ended: u64,
     halted: u64,
     of_runs: Vec<usize>,
@@ -3093,6 +3102,8 @@ fn audit(labelled: &Labelled, image: &Image, starts: &[Start], asked: &Asked) ->
         begun: 0,
         begun_of: [0; MOST_LABELS],
         firsts: [u64::MAX; MOST_LABELS],
+        listed: vec![Vec::new(); MOST_LABELS],
+        places: [0; MOST_LABELS],
         ended: 0,
     };
     let mut machine = Machine::new(program, image, asked.setting);
@@ -3101,6 +3112,7 @@ fn audit(labelled: &Labelled, image: &Image, starts: &[Start], asked: &Asked) ->
     for (number, start) in starts.iter().enumerate() {
         let first = watch.events.len();
         watch.ended = 0;
+        watch.places = [0; MOST_LABELS];
         machine.run(asked.setting, &image.code, start, asked.budget, &mut watch);
         if !machine.has_halted && !asked.is_cut {
             return Err(Stop::Line(10, format!("unfinished: run {} @{}\n", number + 1, machine.clock)));
@@ -3116,8 +3128,8 @@ fn audit(labelled: &Labelled, image: &Image, starts: &[Start], asked: &Asked) ->
         halted += machine.has_halted as u64;
         of_runs.push(classes.class_of(&mut watch.events, first));
     }
-    let (firsts, events, ranges) = (watch.firsts, watch.events, classes.ranges);
-    Ok(Audit { begun, begun_of, firsts, most_ended, halted, of_runs, ranges, events })
+    let (firsts, listed, events, ranges) = (watch.firsts, watch.listed, watch.events, classes.ranges);
+    Ok(Audit { begun, begun_of, firsts, listed, most_ended, halted, of_runs, ranges, events })
 }
 
 impl Audit {
@@ -3322,10 +3334,37 @@ fn powers_within(entries: u64, most: u64, known: &mut HashMap<(u64, u64), u128>)
     count
 }
 
-/// The lines of the levels, and the sharp count and the count by shared time, each None where it is 2^128 or more.
-fn of_levels(labelled: &Labelled, audit: &Audit, asked: &Asked) -> (String, Option<u128>, Option<u128>) {
+/// How many lists that never fall have each number below its own limit; None where that is 2^128 or more.
+fn limited(limits: impl Iterator<Item = u64>) -> Option<u128> {
+    let mut ways: Vec<Option<u128>> = Vec::new();
+    for (place, limit) in limits.enumerate() {
+        let mut below = Some(if place == 0 { 1 } else { 0 });
+        let mut next = Vec::new();
+        for number in 0..limit as usize {
+            if place > 0 {
+                let more = ways.get(number).copied().unwrap_or(Some(0));
+                below = below.zip(more).and_then(|(a, b): (u128, u128)| a.checked_add(b));
+            }
+            next.push(below);
+        }
+        ways = next;
+    }
+    ways.into_iter().try_fold(0u128, |sum, way| sum.checked_add(way?))
+}
+
+/// The product of two counts, each None where it is 2^128 or more.
+fn times(one: Option<u128>, other: Option<u128>) -> Option<u128> {
+    match (one, other) {
+        (Some(0), _) | (_, Some(0)) => Some(0),
+        (one, other) => one?.checked_mul(other?),
+    }
+}
+
+/// The lines of the levels, the sharp count, and the counts by shared time and by own first predictions, each None where it is
+/// 2^128 or more.
+fn of_levels(labelled: &Labelled, audit: &Audit, asked: &Asked) -> (String, Option<u128>, [Option<u128>; 2]) {
     let lattice = &labelled.program.lattice;
-    let (mut text, mut sharp, mut shared) = (String::new(), Some(1u128), Some(1u128));
+    let (mut text, mut sharp, mut shared, mut own) = (String::new(), Some(1u128), Some(1u128), Some(1u128));
     for level in 0..lattice.names.len() {
         if lattice.flows(level as u8, asked.observer) {
             continue;
@@ -3338,11 +3377,13 @@ fn of_levels(labelled: &Labelled, audit: &Audit, asked: &Asked) -> (String, Opti
             let within = if begun <= 64 { Some(powers_within(begun, asked.budget / first, &mut HashMap::new())) } else { all };
             sharp = sharp.zip(all).and_then(|(a, b)| a.checked_mul(b));
             shared = shared.zip(within).and_then(|(a, b)| a.checked_mul(b));
+            let limits = audit.listed[level].iter().map(|first| (u64::BITS - (asked.budget / first).leading_zeros()) as u64);
+            own = times(own, limited(limits));
             text += &format!(" first {first} digits {digits}");
         }
         text += "\n";
     }
-    (text, sharp, shared)
+    (text, sharp, [shared, own])
 }
 
 /// Whether a relevant mitigate stands in another one.
@@ -3362,10 +3403,10 @@ fn count_line(name: &str, count: Option<u128>) -> String {
     count.map_or(format!("{name} 2^128 or more\n"), |count| format!("{name} {count}\n"))
 }
 
-/// The line of the count by shared time, where there is one.
-fn shared_line(labelled: &Labelled, asked: &Asked, shared: Option<u128>) -> String {
+/// The lines of the counts by shared time and by own first predictions, where there are any.
+fn smaller_lines(labelled: &Labelled, asked: &Asked, [shared, own]: [Option<u128>; 2]) -> String {
     let is_nested = has_nested(&labelled.program.body, &relevant(labelled, asked.observer), false);
-    if is_nested { String::new() } else { count_line("shared", shared) }
+    if is_nested { String::new() } else { count_line("shared", shared) + &count_line("own", own) }
 }
 
 fn bound_text(labelled: &Labelled, audit: &Audit, asked: &Asked) -> String {
@@ -3373,7 +3414,7 @@ fn bound_text(labelled: &Labelled, audit: &Audit, asked: &Asked) -> String {
     if asked.setting.hardware.is_shared {
         return text;
     }
-    let (levels, sharp, shared) = of_levels(labelled, audit, asked);
+    let (levels, sharp, smaller) = of_levels(labelled, audit, asked);
     let bits = match sharp {
         None => "bits 128 or more\nguess no limit told\n".into(),
         Some(count) => {
@@ -3385,7 +3426,7 @@ fn bound_text(labelled: &Labelled, audit: &Audit, asked: &Asked) -> String {
         true => "end counted: the same holds for who sees runs end\n",
         false => "end not counted: no limit told for who sees runs end\n",
     };
-    text + &levels + &count_line("sharp", sharp) + &bits + &shared_line(labelled, asked, shared) + end
+    text + &levels + &count_line("sharp", sharp) + &bits + &smaller_lines(labelled, asked, smaller) + end
 }
 
 /// The binary logarithm in units of 2^-32, by squares that are rounded down.
@@ -3413,8 +3454,8 @@ fn leak_text(labelled: &Labelled, audit: &Audit, asked: &Asked) -> String {
     let head: Vec<String> = audit.text(labelled, asked).lines().filter(is_kept).map(|line| format!("{line}\n")).collect();
     let mut text = machine_line(asked).to_string() + &head.concat();
     if !asked.setting.hardware.is_shared {
-        let (_, sharp, shared) = of_levels(labelled, audit, asked);
-        text += &(count_line("sharp", sharp) + &shared_line(labelled, asked, shared));
+        let (_, sharp, smaller) = of_levels(labelled, audit, asked);
+        text += &(count_line("sharp", sharp) + &smaller_lines(labelled, asked, smaller));
     }
     let (whole, distinct) = (audit.of_runs.len() as u64, audit.ranges.len());
     let (mut sizes, mut firsts) = (vec![0u64; distinct], vec![0; distinct]);
