@@ -1,8 +1,10 @@
 -- The intervals that no other one beats begin with the best choices.
-use Rattle.std.proofs.Common.{◌≡◌, ℕ, zero, suc, ◌+◌, ◌*◌, ◌^◌, ◌≤◌, ◌<◌, List, arith, ap, sym, ◌∙◌, subst, true, false, not, ◌&&◌, ◌||◌, leb, ltb, inl, inr, ◌⊎◌, eqb}
+use Rattle.std.proofs.Common.{◌≡◌, ℕ, zero, suc, ◌+◌, ◌*◌, ◌^◌, ◌≤◌, ◌<◌, List, arith, ap, sym}
+use Rattle.std.proofs.Common.{◌∙◌, subst, true, false, not, ◌&&◌, ◌||◌, leb, ltb, inl, inr, ◌⊎◌, eqb}
 use Rattle.std.specs.Cmp.Lexicographic.{pointwise}
 use Rattle.std.specs.Set.{distinct_count}
-use Rattle.std.proofs.lemmas.Bool.{cases_Bool, and_parts, and_from, or_cases, or_parts, leb-true, ltb-true, ltb-false, le-leb, not-true, not_from_false, both_ways}
+use Rattle.std.proofs.lemmas.Bool.{cases_Bool, and_parts, and_from, or_cases, or_parts, leb-true}
+use Rattle.std.proofs.lemmas.Bool.{ltb-true, ltb-false, le-leb, not-true, not_from_false, both_ways}
 use Rattle.first_front.specs.declared.class.Class.{Class}
 use Rattle.first_front.specs.declared.class.Varied.{Varied}
 use Rattle.first_front.specs.declared.interval.Interval.{Interval}

@@ -1,5 +1,6 @@
 -- Lists of miss counts that are the same.
-use Rattle.std.proofs.Common.{◌≡◌, ◌≢◌, ◌<◌, ◌+◌, ◌-◌, ◌||◌, take, ℕ, suc, List, [], ◌∷◌, map, drop, length, get_or, sym, ◌∙◌, subst, true, false, cond, eqb, Bool, arith, ap, refl}
+use Rattle.std.proofs.Common.{◌≡◌, ◌≢◌, ◌<◌, ◌+◌, ◌-◌, ◌||◌, take, ℕ, suc, List, [], ◌∷◌, map}
+use Rattle.std.proofs.Common.{drop, length, get_or, sym, ◌∙◌, subst, true, false, cond, eqb, Bool, arith, ap, refl}
 use Rattle.std.specs.List.{list_any}
 use Rattle.std.specs.Set.{distinct_count, unique_keys}
 use Rattle.std.proofs.Math.Seq.{drop-cons}
