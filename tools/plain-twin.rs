@@ -2549,11 +2549,12 @@ fn refused<T>(what: String) -> Answer<T> {
     Err(Stop::Line(3, format!("starts: {what}\n")))
 }
 
-fn starts_of(text: &str, program: &Program) -> Answer<Vec<Start>> {
+fn starts_of(text: &str, program: &Program, takes_spaces: bool) -> Answer<Vec<Start>> {
     let document = Toml { text, at: 0 }.document()?;
     let version = match document.get("version") {
         None | Some(Value::Integer(1)) => 1,
         Some(Value::Integer(2)) => 2,
+        Some(Value::Integer(3)) if takes_spaces => return plain("a space of starts is left out"),
         Some(_) => return refused("version".into()),
     };
     if document.keys().any(|key| !matches!(*key, "version" | "run")) {
@@ -3645,7 +3646,7 @@ fn read_starts(words: &Words, program: &Program) -> Answer<Vec<Start>> {
         return Ok(vec![Start { memory: vec![0; program.elements], touches: Vec::new() }]);
     }
     match String::from_utf8(bytes_of(words, 1, "starts")?) {
-        Ok(text) => starts_of(&text, program),
+        Ok(text) => starts_of(&text, program, words.command == "leak"),
         Err(_) => refused("not TOML".into()),
     }
 }
