@@ -1,4 +1,5 @@
 pub mod Counting
+pub mod Folding
 pub mod Taking
 pub mod Tallied
 pub mod Members

@@ -12,7 +12,8 @@ use Rattle.leak_audit.proofs.Classing.{tests_sequences, none_classed, one_classe
 use Rattle.leak_classes.specs.Classes.{Classes, no_classes, with_start}
 use Rattle.space_leak.specs.Text.{sizes_of}
 use Rattle.lab_leak.specs.declared.sizes.ClassSizes.{ClassSizes}
-use Rattle.lab_leak.specs.Classes.{classes_from, classes_of_runs, shown_by, AreSizes}
+use Rattle.lab_leak.specs.Classes.{classes_of_runs, shown_by, AreSizes}
+use Rattle.lab_leak.proofs.Folding.{classes_from, folded}
 use Rattle.lab_leak.proofs.Counting.{Grows, grown, shown_add, firsts_same, firsts_more}
 
 -- ---- one run more
@@ -100,7 +101,7 @@ pub record Goes (zs : List (List Event)) (i : ℕ) (left : List ℕ) (s : ClassS
 pub goes_first : (zs : List (List Event)) (cs : List ℕ) (s : ClassSizes) → cs ≡ classes_of same_sequence zs → s.sizes.items ≡ [] → s.firsts.items ≡ []
     → Goes zs 0 cs s
 goes_first zs cs s e f g =
-    record { classes = no_classes; rest = zs; are = record { sizes = f; firsts = g }; left_are = e ∙ numbered zs; all = refl }
+    record { classes = no_classes; rest = zs; are = record { sizes = f; firsts = g }; left_are = e ∙ numbered zs; all = folded zs }
 
 pub goes_on : (zs : List (List Event)) (i c : ℕ) (left : List ℕ) (s new : ClassSizes) → Goes zs i (c ∷ left) s
     → ((k : Classes) (z : List Event) (n : ℕ) → AreSizes k s → c ≡ place_in same_sequence (shown_by k) z → i + 1 ≡ n + 1 → AreSizes (with_start k n z 1) new)

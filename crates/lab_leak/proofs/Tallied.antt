@@ -4,16 +4,13 @@ use Rattle.std.proofs.Common.{append_assoc, length-append}
 use Rattle.std.specs.List.{position_or_len}
 use Rattle.std.proofs.lemmas.List.{length-map}
 use Rattle.label_code.specs.Machine.{Event}
-use Rattle.class_counts.specs.Tally.{add, tally}
+use Rattle.class_counts.specs.Tally.{add}
 use Rattle.leak_audit.specs.Sequences.{same_sequence}
 use Rattle.leak_classes.specs.Classes.{Classes, no_classes, with_start}
-use Rattle.lab_leak.specs.Classes.{classes_from, classes_of_runs, shown_by, AreFirsts, AreTallied}
+use Rattle.lab_leak.specs.Classes.{classes_of_runs, shown_by, AreFirsts, AreTallied}
+use Rattle.lab_leak.proofs.Folding.{classes_from, folded}
 use Rattle.lab_leak.proofs.Counting.{Grows, grown, shown_add, shown_in, firsts_same, firsts_more}
 use Rattle.lab_leak.proofs.Taking.{inserted, different}
-
-tallied : (k : Classes) (n : ℕ) (zs : List (List Event)) → (classes_from k n zs).seen ≡ tally same_sequence k.seen (map (λ z. (z, 1)) zs)
-tallied k n [] = refl
-tallied k n (z ∷ zs) = tallied (with_start k n z 1) (n + 1) zs
 
 shown_all : (k : Classes) (n : ℕ) (zs : List (List Event)) → shown_by (classes_from k n zs) ≡ inserted (shown_by k) zs
 shown_all k n [] = refl
@@ -86,8 +83,7 @@ firsts_all ys (z ∷ zs) k n e h =
 
 pub are_tallied : (zs : List (List Event)) → AreTallied zs
 are_tallied zs = record {
-  tallied = tallied no_classes 0 zs;
   distinct =
-      sym (length-map (classes_of_runs zs).seen (λ c. c.0)) ∙ ap length (shown_all no_classes 0 zs ∙ different zs);
-  firsts = firsts_all [] zs no_classes 0 refl tt;
+      sym (length-map (classes_of_runs zs).seen (λ c. c.0)) ∙ ap length (ap (λ (k : Classes). shown_by k) (sym (folded zs)) ∙ shown_all no_classes 0 zs ∙ different zs);
+  firsts = subst (λ (k : Classes). AreFirsts zs k.seen k.firsts) (folded zs) (firsts_all [] zs no_classes 0 refl tt);
 }

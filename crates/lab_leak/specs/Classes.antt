@@ -1,21 +1,15 @@
 -- The classes of runs that show an observer the same.
 use Rattle.std.specs.Prelude.{◌≡◌, ◌<◌, ◌+◌, ℕ, List, [], ◌∷◌, length, map, get_or}
 use Rattle.label_code.specs.Machine.{Event}
-use Rattle.class_counts.specs.Tally.{tally}
 use Rattle.leak_bound.specs.Records.{distinct_count}
 use Rattle.leak_audit.specs.Sequences.{same_sequence}
-use Rattle.leak_classes.specs.Classes.{Classes, no_classes, with_start}
+use Rattle.leak_classes.specs.Classes.{Classes, classes_shown}
 use Rattle.space_leak.specs.Text.{sizes_of}
 use Rattle.lab_leak.specs.declared.sizes.ClassSizes.{ClassSizes}
 
--- these classes after the runs that show these sequences, the first of which has the number n, from 0; each has weight 1
-abbrev pub classes_from : Classes → ℕ → List (List Event) → Classes
-classes_from k n [] = k
-classes_from k n (z ∷ zs) = classes_from (with_start k n z 1) (n + 1) zs
-
--- the classes of the runs that show these sequences
+-- the classes of the runs that show these sequences, each of which has weight 1
 abbrev pub classes_of_runs : List (List Event) → Classes
-classes_of_runs zs = classes_from no_classes 0 zs
+classes_of_runs zs = classes_shown 0 (map (λ z. (z, 1)) zs)
 
 -- what the runs of each class show
 abbrev pub shown_by : Classes → List (List Event)
@@ -32,9 +26,7 @@ AreFirsts zs [] [] = Unit {0}
 AreFirsts zs (c ∷ cs) (f ∷ fs) = ((i : ℕ) × (f ≡ i + 1) × (i < length zs) × (get_or zs i [] ≡ c.0)) × AreFirsts zs cs fs
 AreFirsts zs _ _ = ⊥
 
--- The classes are the tally of what all runs show, so that their sizes add up to the number of the runs; there are as
--- many as different sequences, and each has a first run that shows it.
+-- Of the classes there are as many as different sequences, and each has a first run that shows it.
 pub record AreTallied (zs : List (List Event)) : Type 0 where
-  pub tallied : (classes_of_runs zs).seen ≡ tally same_sequence [] (map (λ z. (z, 1)) zs)
   pub distinct : length (classes_of_runs zs).seen ≡ distinct_count same_sequence zs
   pub firsts : AreFirsts zs (classes_of_runs zs).seen (classes_of_runs zs).firsts

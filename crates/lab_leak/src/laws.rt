@@ -8,7 +8,7 @@ ghost use Rattle.lab_leak.specs.Ordered.{AllAreOrdered};
 
 use lab_bound::laws::sharp_counts_are_enough;
 
-/// A law: the classes of runs are the tally of what the runs show.
+/// A law: of the classes of runs there are as many as different sequences, and each has a first run that shows it.
 pub fn classes_are_tallied()
     ensures { (zs : List (List Event)) → AreTallied zs }
 {}

@@ -5,18 +5,20 @@ use Rattle.label_lattice.specs.declared.label.Label.{Label}
 use Rattle.timing_types.specs.Labelled.{LabelledProgram}
 use Rattle.leak_classes.specs.declared.fault.WalkFault.{WalkFault}
 use Rattle.leak_classes.specs.declared.fault.WalkFault.TheVariants.{Unfinished, TooMuch, Memory as NoMemory}
-use Rattle.leak_classes.specs.Classes.{Classes}
+use Rattle.leak_classes.specs.Classes.{Classes, no_classes}
+use Rattle.leak_classes.proofs.Walked.{walk, classes_walk, fault_walk}
 use Rattle.leak_numbers.proofs.Lines.{one_text}
 use Rattle.space_starts.specs.Space.{SpaceValue, size_of}
 use Rattle.space_starts.specs.declared.space.Interval.{Interval}
 use Rattle.space_walk.specs.Agreeing.{IsFirstRanging, NoneRanges, Ranges}
+use Rattle.space_walk.specs.Shown.{one}
 use Rattle.tool_texts.specs.declared.status.Status.{Status}
 use Rattle.tool_texts.specs.declared.status.Status.TheVariants as status
 use Rattle.tool_texts.specs.Reports.{unfinished_line, events_line}
 use Rattle.tool_stages.specs.declared.envs.Environment.{Environment}
 use Rattle.tool_stages.proofs.OneLemmas.{Same}
 use Rattle.machine_stage.specs.Lines.{machine_head}
-use Rattle.space_leak.specs.Answer.{classes_in, HasClasses, HasWalkFault, SpaceStops, HasSpaceLeak}
+use Rattle.space_leak.specs.Answer.{shown_in, end_in, HasClasses, HasWalkFault, SpaceStops, HasSpaceLeak}
 use Rattle.space_leak.specs.Text.{sizes_of, class_lines, head_lines, IsSpaceText, ranging_line}
 
 module _ (e : Environment) (t : ℕ) (q : LabelledProgram) (l : Label) (s : SpaceValue) where
@@ -56,21 +58,29 @@ module _ (e : Environment) (t : ℕ) (q : LabelledProgram) (l : Label) (s : Spac
       ⊎_elim (λ (lt : v < w). absurd (k.first v lt h.here))
       (λ (le : w ≤ v). ⊎_elim (λ (lt : w < v). absurd (h.first w lt k.here)) (λ (ge : v ≤ w). omega (arith, le, ge)) (cases_lt w v)) (cases_lt v w)
 
+  classes_for : (k : Classes) → HasClasses e t q l.number s k
+      → walk (shown_in e t q l.number s) (end_in e t q s) one no_classes 0 (size_of s) ≡ Ok k
+  classes_for k h = classes_walk (shown_in e t q l.number s) (end_in e t q s) one 0 (size_of s) k h.classes
+
+  fault_at : (f : WalkFault) → HasWalkFault e t q l.number s f
+      → walk (shown_in e t q l.number s) (end_in e t q s) one no_classes 0 (size_of s) ≡ Err f
+  fault_at f h = fault_walk (shown_in e t q l.number s) (end_in e t q s) one 0 (size_of s) f h.fault
+
   one_stop : (st u : Status) (x y : List ℕ) → IsRanging st x ⊎ IsWalkStop st x → IsRanging u y ⊎ IsWalkStop u y → Same st u x y
   one_stop st u x y (inl h) (inl k) = (h.0 ∙ sym k.0, h.3 ∙ ap (ranging_line q.program) (one_ranging h.1 k.1 h.2 k.2) ∙ sym k.3)
   one_stop st u x y (inl h) (inr k) = absurd (k.2.agree h.1 h.2.here)
   one_stop st u x y (inr h) (inl k) = absurd (h.2.agree k.1 k.2.here)
   one_stop st u x y (inr h) (inr k) =
-      let both : Err h.0 ≡ Err k.0 = sym h.2.fault ∙ k.2.fault in
+      let both : Err h.0 ≡ Err k.0 = sym (fault_at h.0 h.2) ∙ fault_at k.0 k.2 in
       let same : h.0 ≡ k.0 = cc in
       (h.1 ∙ ap status_by same ∙ sym k.1, h.3 ∙ ap line_of same ∙ sym k.3)
 
   stopped_or_not : (k : Classes) (st : Status) (x : List ℕ) → HasClasses e t q l.number s k → IsRanging st x ⊎ IsWalkStop st x → ⊥
   stopped_or_not k st x h (inl r) = h.agree r.1 r.2.here
-  stopped_or_not k st x h (inr r) = let both : Ok k ≡ Err r.0 = sym h.classes ∙ r.2.fault in absurd cc
+  stopped_or_not k st x h (inr r) = let both : Ok k ≡ Err r.0 = sym (classes_for k h) ∙ fault_at r.0 r.2 in absurd cc
 
   one_classes : (j k : Classes) → HasClasses e t q l.number s j → HasClasses e t q l.number s k → j ≡ k
-  one_classes j k h i = let both : Ok j ≡ Ok k = sym h.classes ∙ i.classes in cc
+  one_classes j k h i = h.classes.classes ∙ sym i.classes.classes
 
   one_space_text : (k : Classes) (x y : List ℕ) → IsSpaceText e q l t s k x → IsSpaceText e q l t s k y → x ≡ y
   one_space_text k x y h i =

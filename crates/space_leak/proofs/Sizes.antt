@@ -8,6 +8,7 @@ use Rattle.leak_audit.specs.declared.sighting.Sighting.{Sighting}
 use Rattle.leak_audit.specs.Sequences.{same_sequence}
 use Rattle.leak_classes.specs.Walk.{shown}
 use Rattle.leak_classes.specs.Views.{class_of}
+use Rattle.leak_classes.proofs.Grown.{added_total}
 use Rattle.space_walk.specs.Shown.{one}
 
 abbrev pub sizes : {K : Type 0} → List (K × ℕ) → List ℕ
@@ -37,3 +38,14 @@ module _ (seen : ℕ → List Event) (end : ℕ → RunEnd) where
       → AllSome (sizes (tally same_sequence es (shown seen end one n c)))
   some_tallied es n zero h = h
   some_tallied es n (suc c) h = some_tallied (add same_sequence es (seen n) 1) (n + 1) c (some_added es (seen n) h)
+
+  added : (es : List (List Event × ℕ)) (n c : ℕ) → total (tally same_sequence es (shown seen end one n c)) ≡ total es + c
+  added es n zero = omega arith
+  added es n (suc c) =
+      let rest = added (add same_sequence es (seen n) 1) (n + 1) c in
+      let one_more = added_total same_sequence es (seen n) 1 in
+      omega (arith, rest, one_more)
+
+  -- each start is in one class
+  pub all_tallied : (c : ℕ) → total (tally same_sequence [] (shown seen end one 0 c)) ≡ c
+  all_tallied c = let e = added [] 0 c in omega (arith, e)

@@ -4,9 +4,8 @@ use Rattle.label_lattice.specs.declared.label.Label.{Label}
 use Rattle.label_lattice.specs.Order.{Order}
 use Rattle.timing_types.specs.Labelled.{LabelledProgram}
 use Rattle.fixed_log.specs.Entropy.{AllSome}
-use Rattle.leak_classes.specs.Classes.{Classes, no_classes}
-use Rattle.leak_classes.specs.Walk.{IsTally}
-use Rattle.leak_classes.proofs.Walked.{tallies}
+use Rattle.class_counts.specs.Tally.{total}
+use Rattle.leak_classes.specs.Classes.{Classes}
 use Rattle.leak_numbers.specs.Numbers.{AreNumbers, NumbersPut}
 use Rattle.space_starts.specs.Space.{SpaceValue, size_of}
 use Rattle.space_walk.specs.Shown.{one}
@@ -19,21 +18,20 @@ use Rattle.tool_texts.specs.declared.status.Status.TheVariants as status
 use Rattle.tool_texts.specs.Ends.{IsStop, status_of, stop_text}
 use Rattle.tool_texts.proofs.EndLemmas.{broke_map}
 use Rattle.machine_stage.specs.Lines.{machine_head}
-use Rattle.space_leak.specs.Answer.{shown_in, end_in, classes_in, HasClasses, SpaceStops, HasSpaceLeak, AllAreWhole}
+use Rattle.space_leak.specs.Answer.{shown_in, end_in, HasClasses, SpaceStops, HasSpaceLeak, AllAreWhole}
 use Rattle.space_leak.specs.Text.{sizes_of, class_lines, head_lines, IsSpaceText}
-use Rattle.space_leak.proofs.Sizes.{some_tallied}
+use Rattle.space_leak.proofs.Sizes.{some_tallied, all_tallied}
 
 -- no class is empty
 pub some_classes : (e : Environment) (t : ℕ) (q : LabelledProgram) (o : ℕ) (s : SpaceValue) (k : Classes) → HasClasses e t q o s k → AllSome (sizes_of k)
 some_classes e t q o s k h =
-    let tally = tallies (shown_in e t q o s) (end_in e t q s) one 0 (size_of s) k h.classes in
-    subst (λ z. AllSome (sizes_of (record { seen = z; firsts = k.firsts }))) (sym tally.tallied)
+    subst (λ (z : Classes). AllSome (sizes_of z)) (sym h.classes.classes)
     (some_tallied (shown_in e t q o s) (end_in e t q s) [] 0 (size_of s) tt)
 
 pub whole : AllAreWhole
 whole e t q o s k h = record {
   agree = all_agree (environment e q.program.order) AnyHistory history_made q o s tt h.agree;
-  tally = tallies (shown_in e t q o s) (end_in e t q s) one 0 (size_of s) k h.classes;
+  all = ap (λ (z : Classes). total z.seen) h.classes.classes ∙ all_tallied (shown_in e t q o s) (end_in e t q s) (size_of s);
 }
 
 -- the lines one after another

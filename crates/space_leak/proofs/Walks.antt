@@ -19,14 +19,15 @@ use Rattle.start_file.specs.Starts.{IsFor}
 use Rattle.leak_audit.specs.Agreement.{start_of}
 use Rattle.leak_classes.specs.declared.fault.WalkFault.{WalkFault}
 use Rattle.leak_classes.specs.Classes.{Classes, no_classes, with_start, events_in}
-use Rattle.leak_classes.specs.Walk.{refusal, unless, walk}
+use Rattle.leak_classes.specs.Walk.{refusal, AreClasses, IsWalkFault}
+use Rattle.leak_classes.proofs.Walked.{unless, walk, classes_walk, fault_walk, walk_classes, walk_fault}
 use Rattle.space_starts.specs.Space.{SpaceValue, size_of, start_at, IsSpaceFor}
 use Rattle.space_walk.specs.Shown.{shown_at, end_at, one}
 use Rattle.space_walk.proofs.Same.{start_long}
 use Rattle.tool_stages.specs.declared.envs.Environment.{Environment}
 use Rattle.tool_stages.specs.Envs.{hardware_of, told_in}
 use Rattle.tool_stages.proofs.EnvLemmas.{named_told}
-use Rattle.space_leak.specs.Answer.{shown_in, end_in, classes_in}
+use Rattle.space_leak.specs.Answer.{shown_in, end_in}
 
 -- walks of runs that show and end alike are alike
 alike : (seen seen' : ℕ → List Event) (end end' : ℕ → RunEnd) (k : Classes) (n c : ℕ)
@@ -49,9 +50,22 @@ module _ {E : Type 0} (v : Env E) (made : Order → List Touch → E) (e : Envir
       → told_by (run_from v (lowered q).instrs t (start_of made q.program.order (start_at s n))) ≡ told_in e q.program.order (lowered q) (start_at s n) t
   told_at n lt = named_told v made e hw is q (lowered q) shaped told refl (start_at s n) (start_fits n lt) t
 
-  pub classes_alike : walk (shown_at v made q o t s) (end_at v made q t s) one no_classes 0 (size_of s) ≡ classes_in e t q o s
-  classes_alike =
+  walks_alike : walk (shown_at v made q o t s) (end_at v made q t s) one no_classes 0 (size_of s)
+      ≡ walk (shown_in e t q o s) (end_in e t q s) one no_classes 0 (size_of s)
+  walks_alike =
       alike (shown_at v made q o t s) (shown_in e t q o s) (end_at v made q t s) (end_in e t q s) no_classes 0 (size_of s)
       (λ i l m.
       let same = told_at i (omega (arith, m)) in
       (ap (λ (z : Told). visible (order_of q) (labels_of q) o z.events) same, ap (λ (z : Told). z.end) same))
+
+  pub classes_alike : (k : Classes) → AreClasses (shown_at v made q o t s) (end_at v made q t s) one 0 (size_of s) k
+      → AreClasses (shown_in e t q o s) (end_in e t q s) one 0 (size_of s) k
+  classes_alike k h =
+      walk_classes (shown_in e t q o s) (end_in e t q s) one 0 (size_of s) k
+      (sym walks_alike ∙ classes_walk (shown_at v made q o t s) (end_at v made q t s) one 0 (size_of s) k h)
+
+  pub faults_alike : (f : WalkFault) → IsWalkFault (shown_at v made q o t s) (end_at v made q t s) one 0 (size_of s) f
+      → IsWalkFault (shown_in e t q o s) (end_in e t q s) one 0 (size_of s) f
+  faults_alike f h =
+      walk_fault (shown_in e t q o s) (end_in e t q s) one 0 (size_of s) f
+      (sym walks_alike ∙ fault_walk (shown_at v made q o t s) (end_at v made q t s) one 0 (size_of s) f h)

@@ -1,5 +1,5 @@
 -- What `leak` tells of the starts of a space, and what stops it.
-use Rattle.std.specs.Prelude.{◌≡◌, ◌<◌, ℕ, List, Option, Some, None, Result, Ok, Err}
+use Rattle.std.specs.Prelude.{◌≡◌, ◌<◌, ℕ, List, Option, Some, None}
 use Rattle.label_lattice.specs.declared.label.Label.{Label}
 use Rattle.timing_types.specs.Labelled.{LabelledProgram}
 use Rattle.label_code.specs.Machine.{Event}
@@ -9,8 +9,9 @@ use Rattle.cycle_machine.specs.declared.end.RunEnd.{RunEnd}
 use Rattle.history_bound.specs.Over.{AnyHistory, history_made}
 use Rattle.leak_classes.specs.declared.fault.WalkFault.{WalkFault}
 use Rattle.leak_classes.specs.declared.fault.WalkFault.TheVariants.{Unfinished, TooMuch}
-use Rattle.leak_classes.specs.Classes.{Classes, no_classes}
-use Rattle.leak_classes.specs.Walk.{walk, IsTally}
+use Rattle.class_counts.specs.Tally.{total}
+use Rattle.leak_classes.specs.Classes.{Classes}
+use Rattle.leak_classes.specs.Walk.{AreClasses, IsWalkFault}
 use Rattle.space_starts.specs.Space.{SpaceValue, size_of, IsSpaceFor}
 use Rattle.space_walk.specs.Shown.{shown_at, end_at, one}
 use Rattle.space_walk.specs.Agreeing.{IsFirstRanging, NoneRanges, AllAgree}
@@ -30,19 +31,15 @@ shown_in e t q o s = shown_at (environment e q.program.order) history_made q o t
 abbrev pub end_in : Environment → ℕ → LabelledProgram → SpaceValue → ℕ → RunEnd
 end_in e t q s = end_at (environment e q.program.order) history_made q t s
 
--- the classes of all starts, or why there are none
-abbrev pub classes_in : Environment → ℕ → LabelledProgram → ℕ → SpaceValue → Result Classes WalkFault
-classes_in e t q o s = walk (shown_in e t q o s) (end_in e t q s) one no_classes 0 (size_of s)
-
 -- each variable that the observer sees has one value, and these are the classes of all starts
 pub record HasClasses (e : Environment) (t : ℕ) (q : LabelledProgram) (o : ℕ) (s : SpaceValue) (k : Classes) : Type 0 where
   pub agree : NoneRanges q o s.memory
-  pub classes : classes_in e t q o s ≡ Ok k
+  pub classes : AreClasses (shown_in e t q o s) (end_in e t q s) one 0 (size_of s) k
 
 -- why there are no classes
 pub record HasWalkFault (e : Environment) (t : ℕ) (q : LabelledProgram) (o : ℕ) (s : SpaceValue) (f : WalkFault) : Type 0 where
   pub agree : NoneRanges q o s.memory
-  pub fault : classes_in e t q o s ≡ Err f
+  pub fault : IsWalkFault (shown_in e t q o s) (end_in e t q s) one 0 (size_of s) f
 
 -- a variable that the observer sees has two values or more; else a run has not halted, or too much is shown
 abbrev pub SpaceStops : Environment → ℕ → LabelledProgram → Label → SpaceValue → Status → List ℕ → Type 0
@@ -64,11 +61,10 @@ pub record CanWalk (q : LabelledProgram) (l : Label) (code : Code) (s : SpaceVal
   pub observer : l.number < q.program.order.size
   pub space : IsSpaceFor q.program s
 
--- Where there are classes, all starts agree for the observer, and the classes are the tally of what all their runs show,
--- each of which has halted.
+-- Where there are classes, all starts agree for the observer, and each of them is in one class.
 pub record AreWhole (e : Environment) (t : ℕ) (q : LabelledProgram) (o : ℕ) (s : SpaceValue) (k : Classes) : Type 0 where
   pub agree : AllAgree (environment e q.program.order) AnyHistory history_made q o s
-  pub tally : IsTally (shown_in e t q o s) (end_in e t q s) one 0 (size_of s) k
+  pub all : total k.seen ≡ size_of s
 
 abbrev pub AllAreWhole : Type 0
 AllAreWhole = (e : Environment) (t : ℕ) (q : LabelledProgram) (o : ℕ) (s : SpaceValue) (k : Classes) → HasClasses e t q o s k → AreWhole e t q o s k

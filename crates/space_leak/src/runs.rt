@@ -1,13 +1,15 @@
 //! The runs of a space.
 
-ghost use Rattle.std.specs.Prelude.{◌≡◌, ◌≢◌, Ok, Err, IfOk, IfErr};
+ghost use Rattle.std.specs.Prelude.{◌≡◌, ◌≢◌, IfOk, IfErr};
 ghost use Rattle.class_counts.specs.Tally.{total};
 ghost use Rattle.space_starts.specs.Space.{seen, size_of};
 ghost use Rattle.leak_classes.specs.declared.fault.WalkFault.TheVariants as fault;
+ghost use Rattle.leak_classes.specs.Walk.{AreClasses, IsWalkFault};
 ghost use Rattle.leak_classes.specs.Views.{classes_of};
+ghost use Rattle.space_walk.specs.Shown.{one};
 ghost use Rattle.run_limits.specs.Cycles.{IsCycles};
 ghost use Rattle.tool_stages.specs.Envs.{hardware_of};
-ghost use Rattle.space_leak.specs.Answer.{CanWalk, classes_in};
+ghost use Rattle.space_leak.specs.Answer.{CanWalk, shown_in, end_in};
 
 use env_contract::env::MachineEnv;
 use label_code::image::Image;
@@ -41,9 +43,11 @@ fn walk_in<E: MachineEnv + Drop, M: MachineMaker<E>, W: Watch>(
     requires size { size ≡ size_of (seen space.now) }
     requires cycles { IsCycles setting.budget }
     requires machine { hardware_of setting.env ≡ M.machine maker.now }
-    ensures classes { IfOk result (λ k. classes_in setting.env setting.budget p.now observer.number (seen space.now) ≡ Ok (classes_of k)) }
+    ensures classes { IfOk result (λ k. AreClasses (shown_in setting.env setting.budget p.now observer.number (seen space.now))
+        (end_in setting.env setting.budget p.now (seen space.now)) one 0 (size_of (seen space.now)) (classes_of k)) }
     ensures total { IfOk result (λ k. total k.classes.entries ≡ size_of (seen space.now)) }
-    ensures fault { IfErr result (λ e. e ≢ fault.Memory → classes_in setting.env setting.budget p.now observer.number (seen space.now) ≡ Err e) }
+    ensures fault { IfErr result (λ e. e ≢ fault.Memory → IsWalkFault (shown_in setting.env setting.budget p.now observer.number (seen space.now))
+        (end_in setting.env setting.budget p.now (seen space.now)) one 0 (size_of (seen space.now)) e) }
 {
     image.laws();
     makers_tell_as_histories::<E, M>();
@@ -81,9 +85,11 @@ pub(crate) fn walk_named<W: Watch>(
     requires can { CanWalk p.now observer image.now (seen space.now) }
     requires size { size ≡ size_of (seen space.now) }
     requires cycles { IsCycles setting.budget }
-    ensures classes { IfOk result (λ k. classes_in setting.env setting.budget p.now observer.number (seen space.now) ≡ Ok (classes_of k)) }
+    ensures classes { IfOk result (λ k. AreClasses (shown_in setting.env setting.budget p.now observer.number (seen space.now))
+        (end_in setting.env setting.budget p.now (seen space.now)) one 0 (size_of (seen space.now)) (classes_of k)) }
     ensures total { IfOk result (λ k. total k.classes.entries ≡ size_of (seen space.now)) }
-    ensures fault { IfErr result (λ e. e ≢ fault.Memory → classes_in setting.env setting.budget p.now observer.number (seen space.now) ≡ Err e) }
+    ensures fault { IfErr result (λ e. e ≢ fault.Memory → IsWalkFault (shown_in setting.env setting.budget p.now observer.number (seen space.now))
+        (end_in setting.env setting.budget p.now (seen space.now)) one 0 (size_of (seen space.now)) e) }
 {
     in_env!(setting.env, maker => walk_in(alloc, maker, p, image, observer, space, size, setting, watch))
 }

@@ -15,9 +15,9 @@ use Rattle.leak_audit.specs.Observed.{event_of, sequence_of, ObservesRun}
 use Rattle.leak_classes.specs.declared.fault.WalkFault.{WalkFault}
 use Rattle.leak_classes.specs.declared.known.Known.{Known}
 use Rattle.leak_classes.specs.Classes.{Classes, no_classes, with_start, events_in}
-use Rattle.leak_classes.specs.Walk.{refusal, walk}
+use Rattle.leak_classes.specs.Walk.{refusal, AreClasses, IsWalkFault}
 use Rattle.leak_classes.specs.Views.{classes_of, IsCounted}
-use Rattle.leak_classes.proofs.Walked.{next_walk, last_walk, no_walk}
+use Rattle.leak_classes.proofs.Walked.{walk, next_walk, last_walk, no_walk, walk_classes, walk_fault}
 use Rattle.space_walk.specs.Shown.{shown_at, end_at, one}
 
 module _ {E : Type 0} (v : Env E) (made : Order → List Touch → E) (p : LabelledProgram) (o t : ℕ) (s : SpaceValue) (b e : ℕ) where
@@ -75,12 +75,13 @@ module _ {E : Type 0} (v : Env E) (made : Order → List Touch → E) (p : Label
 
       -- a run that is refused
       pub refused : (f : WalkFault) → ((sequence : List Event) → w.tally.shown ≡ length sequence → sequence_of w.tally.events ≡ take 16777216 sequence
-          → refusal w.end n (events_in (with_start (classes_of k) n sequence 1).seen) ≡ Some f) → whole ≡ Err f
+          → refusal w.end n (events_in (with_start (classes_of k) n sequence 1).seen) ≡ Some f)
+          → IsWalkFault seen end one b (e - b) f
       refused f why =
           let is : refusal (end n) n (events_in (with_start (classes_of k) n (seen n) 1).seen) ≡ Some f =
           ap (λ z. refusal z n (events_in (with_start (classes_of k) n (seen n) 1).seen)) (sym h.end) ∙ why (seen n) long front in
-          walking.rest ∙ last_walk seen end one (classes_of k) n e f lt is
+          walk_fault seen end one b (e - b) f (walking.rest ∙ last_walk seen end one (classes_of k) n e f lt is)
 
   -- no run is left
-  pub all_walked : (k : Known) (n : ℕ) → e ≤ n → Walking k n → whole ≡ Ok (classes_of k)
-  all_walked k n le walking = walking.rest ∙ no_walk seen end one (classes_of k) n e le
+  pub all_walked : (k : Known) (n : ℕ) → e ≤ n → Walking k n → AreClasses seen end one b (e - b) (classes_of k)
+  all_walked k n le walking = walk_classes seen end one b (e - b) (classes_of k) (walking.rest ∙ no_walk seen end one (classes_of k) n e le)

@@ -8,8 +8,7 @@ ghost use Rattle.space_starts.specs.Chooser.{IsChooser};
 ghost use Rattle.leak_audit.specs.Agreement.{start_of};
 ghost use Rattle.leak_audit.specs.Observed.{TellsSeen, ObservesRun};
 ghost use Rattle.leak_classes.specs.declared.fault.WalkFault.TheVariants as fault;
-ghost use Rattle.leak_classes.specs.Classes.{no_classes};
-ghost use Rattle.leak_classes.specs.Walk.{walk};
+ghost use Rattle.leak_classes.specs.Walk.{AreClasses, IsWalkFault};
 ghost use Rattle.leak_classes.specs.Views.{classes_of, IsCounted};
 ghost use Rattle.space_walk.specs.Shown.{shown_at, end_at, one};
 
@@ -82,12 +81,12 @@ pub fn walk_space<E: MachineEnv + Drop, M: MakeEnv<E>, W: Watch>(
     requires space { IsSpaceFor p.now.program (seen space.now) }
     requires numbers { numbers.end ≤ size_of (seen space.now) }
     requires limit { limit ≤ 2 ^ 40 }
-    ensures classes { IfOk result (λ k. walk (shown_at E.env (M.made make.now) p.now label.number limit (seen space.now))
-        (end_at E.env (M.made make.now) p.now limit (seen space.now)) one no_classes numbers.begin (numbers.end - numbers.begin) ≡ Ok (classes_of k)) }
+    ensures classes { IfOk result (λ k. AreClasses (shown_at E.env (M.made make.now) p.now label.number limit (seen space.now))
+        (end_at E.env (M.made make.now) p.now limit (seen space.now)) one numbers.begin (numbers.end - numbers.begin) (classes_of k)) }
     ensures counted { IfOk result IsCounted }
     ensures total { IfOk result (λ k. total k.classes.entries ≡ numbers.end - numbers.begin) }
-    ensures fault { IfErr result (λ e. e ≢ fault.Memory → walk (shown_at E.env (M.made make.now) p.now label.number limit (seen space.now))
-        (end_at E.env (M.made make.now) p.now limit (seen space.now)) one no_classes numbers.begin (numbers.end - numbers.begin) ≡ Err e) }
+    ensures fault { IfErr result (λ e. e ≢ fault.Memory → IsWalkFault (shown_at E.env (M.made make.now) p.now label.number limit (seen space.now))
+        (end_at E.env (M.made make.now) p.now limit (seen space.now)) one numbers.begin (numbers.end - numbers.begin) e) }
 {
     image.laws();
     let shown = seen_variables(p, label);

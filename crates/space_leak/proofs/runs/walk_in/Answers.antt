@@ -1,12 +1,11 @@
-use Rattle.std.proofs.Common.{◌≡◌, ◌∙◌, sym, ap, subst, ◌-◌, arith}
+use Rattle.std.proofs.Common.{◌≡◌, sym, subst, ◌-◌, arith}
 use Rattle.std.proofs.lemmas.Result.{IfOk-weaker, IfErr-weaker}
 use Rattle.label_code.specs.Shaped.{IsShaped}
-use Rattle.leak_classes.specs.Classes.{no_classes}
-use Rattle.leak_classes.specs.Walk.{walk}
+use Rattle.leak_classes.specs.Walk.{AreClasses, IsWalkFault}
+use Rattle.leak_classes.specs.Views.{classes_of}
 use Rattle.space_starts.specs.Space.{seen, size_of}
 use Rattle.space_walk.specs.Shown.{shown_at, end_at, one}
-use Rattle.space_leak.specs.Answer.{classes_in}
-use Rattle.space_leak.proofs.Walks.{classes_alike}
+use Rattle.space_leak.proofs.Walks.{classes_alike, faults_alike}
 use Rattle.space_leak.proofs.runs.walk_in.Goals as goal
 
 pub returns-clause-classes : goal.returns-clause-classes
@@ -20,8 +19,9 @@ returns-clause-classes g c =
     let shaped = subst IsShaped c.requires.can.image c.laws.ensures.shaped in
     let same = classes_alike v made c.args.setting.env (g.M.MachineMaker.machine c.args.maker.now) c.requires.machine q o t s c.requires.can.space shaped
     (c.makers_tell_as_histories.ensures.runs c.args.maker.now) in
-    let all : size_of s ≡ c.args.size - 0 = omega (arith, c.requires.size) in
-    IfOk-weaker c.walk_space.result _ _ (λ k h. sym same ∙ ap (λ n. walk (shown_at v made q o t s) (end_at v made q t s) one no_classes 0 n) all ∙ h)
+    let all : c.args.size - 0 ≡ size_of s = omega (arith, c.requires.size) in
+    IfOk-weaker c.walk_space.result _ _
+    (λ k h. same (classes_of k) (subst (λ n. AreClasses (shown_at v made q o t s) (end_at v made q t s) one 0 n (classes_of k)) all h))
     c.walk_space.ensures.classes
 
 pub returns-clause-fault : goal.returns-clause-fault
@@ -33,8 +33,9 @@ returns-clause-fault g c =
     let t = c.args.setting.budget in
     let s = seen c.args.space.now in
     let shaped = subst IsShaped c.requires.can.image c.laws.ensures.shaped in
-    let same = classes_alike v made c.args.setting.env (g.M.MachineMaker.machine c.args.maker.now) c.requires.machine q o t s c.requires.can.space shaped
+    let same = faults_alike v made c.args.setting.env (g.M.MachineMaker.machine c.args.maker.now) c.requires.machine q o t s c.requires.can.space shaped
     (c.makers_tell_as_histories.ensures.runs c.args.maker.now) in
-    let all : size_of s ≡ c.args.size - 0 = omega (arith, c.requires.size) in
+    let all : c.args.size - 0 ≡ size_of s = omega (arith, c.requires.size) in
     IfErr-weaker c.walk_space.result _ _
-    (λ e h n. sym same ∙ ap (λ n. walk (shown_at v made q o t s) (end_at v made q t s) one no_classes 0 n) all ∙ h n) c.walk_space.ensures.fault
+    (λ e h n. same e (subst (λ m. IsWalkFault (shown_at v made q o t s) (end_at v made q t s) one 0 m e) all (h n)))
+    c.walk_space.ensures.fault
