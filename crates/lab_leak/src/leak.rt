@@ -20,12 +20,12 @@ use tim_base::sink::Sink;
 use tool_stages::setting::Setting;
 use tool_texts::status::Status;
 
-/// Writes what the runs of the program of a file from the starts of another one tell an observer of the start: how many
-/// runs there are, the observer, the budget, the bound of an audit, the sharp count, how many different things are seen,
+/// Writes what the runs of the program of a file from the starts of another one, a list or a space, tell an observer of the
+/// start. Of a list: how many runs there are, the observer, the budget, the bound of an audit, the sharp count, how many different things are seen,
 /// the sizes of their classes, entropies as intervals in which they lie, what a guess of the start is worth before and
 /// after; and for each class its size, the number of its first run, and what the observer sees of it as one field. On a
 /// machine that a file describes a line stands in front that tells how it is shared; where all labels share it, no bound and
-/// no sharp count is told. It stops where and as an audit does.
+/// no sharp count is told. It stops where and as an audit does. Of a space: what `space_leak` tells.
 ///
 /// `answered`: the status and the text are the answer, in the order of its refusals, from what the shelf is told to
 /// hold. A file may not be read only where the count of its faults rose. After a fault of the sink a prefix of the text

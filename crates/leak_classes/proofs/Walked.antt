@@ -1,5 +1,5 @@
 -- The runs one after another: what comes out are the classes of all starts, or the first run decides that is not kept.
-use Rattle.std.proofs.Common.{◌≡◌, ◌<◌, ◌≤◌, ◌+◌, ◌-◌, ◌⊎◌, inl, inr, ℕ, zero, suc, List, [], ◌∷◌, ◌++◌, length, map, Option, Bool, true, false, cond}
+use Rattle.std.proofs.Common.{◌≡◌, ◌<◌, ◌≤◌, ◌+◌, ◌-◌, ◌⊎◌, inl, inr, ℕ, zero, suc, List, [], ◌∷◌, ◌++◌, length, Option, Bool, true, false, cond}
 use Rattle.std.proofs.Common.{Some, None, Result, Ok, Err, refl, sym, ap, ◌∙◌, subst, arith, ⊎_elim}
 use Rattle.std.specs.Prelude.{nat_lt}
 use Rattle.std.proofs.lemmas.Bool.{cases_lt, ltb-true, lt-ltb}
@@ -13,7 +13,7 @@ use Rattle.leak_audit.proofs.Classing.{tests_sequences}
 use Rattle.leak_classes.specs.declared.fault.WalkFault.{WalkFault}
 use Rattle.leak_classes.specs.declared.fault.WalkFault.TheVariants.{Unfinished, TooMuch, Memory}
 use Rattle.leak_classes.specs.Classes.{Classes, classes_shown, no_classes, events_in, with_start}
-use Rattle.leak_classes.specs.Walk.{refusal, shown, classes_at, AreKept, AreClasses, IsCut, IsTooMuch, IsWalkFault}
+use Rattle.leak_classes.specs.Walk.{refusal, shown, classes_at, AreKept, AreClasses, IsWalkFault}
 
 -- ---- one start more
 
