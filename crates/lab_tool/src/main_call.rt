@@ -11,7 +11,9 @@ ghost use Rattle.lab_words.specs.QuestionViews.{asked_of, machine_of};
 ghost use Rattle.lab_tool.specs.Answers.{Before, BeforeIn, IsAnswer, IsAnswerIn, IsUsage};
 ghost use Rattle.lab_tool.specs.Complete.{CanEnd, files_of, own_files};
 ghost use Rattle.lab_tool.specs.Machines.{BeforeOn, OnMachine, machine_in};
+ghost use Rattle.lab_tool.specs.Worth.{AnswersAreWorth};
 
+use crate::laws::answers_are_worth;
 use lab_bound::bound::bound;
 use lab_leak::leak::leak;
 use lab_seen::seen::seen;
@@ -210,6 +212,9 @@ fn refuse<W: Sink>(alloc: Global, out: &mut W, words: &[String]) -> Status
 /// `fetched`: of the files that the words name the first ones are fetched, in their order, each once, and none after one
 /// that gave no bytes. A read fault is told where the last fetch failed and only there, unless its line could not be
 /// written.
+///
+/// `worth`: on machines with partitions the printed counts bound what starts show that agree, those of a file and others;
+/// what `seen` writes is as few; and a chain of `why` refutes every labelling.
 pub fn lab_main<S: Shelf, W: Sink>(
     alloc: Global,
     words: &[String],
@@ -224,6 +229,7 @@ pub fn lab_main<S: Shelf, W: Sink>(
     ensures complete { IfSome (question_of (map string_bytes words.now)) (λ a. (s : Status) → CanEnd (S.content shelf.old) a s
         → NoneRises (λ name. Rose (S.faults shelf.old name) (S.faults shelf.new name)) (files_of a) → (Rose (W.faults out.old) (W.faults out.new) → ⊥)
         → (result ≡ s) ⊎ (result ≡ Status.Memory)) }
+    ensures worth { AnswersAreWorth }
     ensures write { result ≡ Status.WriteFault → Rose (W.faults out.old) (W.faults out.new) }
     ensures fetched { HasFetched (named_by files_of (question_of (map string_bytes words.now))) result (S.log shelf.old) (S.log shelf.new) }
 
@@ -232,6 +238,7 @@ pub fn lab_main<S: Shelf, W: Sink>(
     ensures later { NoCountFalls (S.faults shelf.old) (S.faults shelf.new) }
     ensures later_out { W.faults out.old ≤ W.faults out.new }
 {
+    answers_are_worth();
     match read_question(alloc, words) {
         Ok(question) => obey(alloc, shelf, out, question),
         Err(WordsFault::Usage) => refuse(alloc, out, words),

@@ -1,4 +1,5 @@
 pub mod Reasons
+pub mod Refuting
 pub mod Faulty
 pub mod Answers
 pub mod Explained

@@ -4,6 +4,7 @@
 
 mod explained;
 mod faulty;
+pub mod laws;
 mod names;
 pub mod of;
 pub mod origins;

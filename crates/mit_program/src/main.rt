@@ -16,7 +16,7 @@ fn main(rt: HostRuntime) -> ExitCode {
         Ok(words) => words,
         Err(refused) => return ExitCode::from(refused.number()),
     };
-    let mut shelf = FileShelf::new(&rt);
+    let mut shelf = FileShelf::new(alloc, &rt);
     let target = target_of(&rt, &rt.stdout());
     let outlet = Outlet::new(alloc, &rt, &progress, rt.stdout(), target);
     let (number, _out) = call(alloc, words.as_slice(), &mut shelf, &outlet, &outlet);

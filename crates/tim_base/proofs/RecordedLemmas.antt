@@ -1,6 +1,6 @@
 -- What is recorded.
-use Rattle.std.proofs.Common.{◌≡◌, ℕ, ◌<◌, ◌≤◌, Bool, true, false, List, [], ◌∷◌, ◌++◌, map, length, drop, refl, sym, ap, ap₂, ◌∙◌, subst, append_assoc}
-use Rattle.std.proofs.Common.{Option, Some, None, arith}
+use Rattle.std.proofs.Common.{◌≡◌, ℕ, ◌<◌, Bool, true, false, List, [], ◌∷◌, ◌++◌, map, length, drop, refl, sym, ap, ap₂, ◌∙◌, subst}
+use Rattle.std.proofs.Common.{Some, arith}
 use Rattle.std.specs.Prelude.{flat_map, unwrap_or}
 use Rattle.std.specs.List.{All, concat}
 use Rattle.std.specs.Io.KnownBytes.{Appends}

@@ -1,5 +1,5 @@
 -- The sink and the shelf that record, as contracts see them.
-use Rattle.std.specs.Prelude.{◌≡◌, ℕ, Bool, true, false, List, [], ◌∷◌, map, flat_map, length, Option, Some, None, Result, Ok, Err, IfOk, All}
+use Rattle.std.specs.Prelude.{◌≡◌, ℕ, Bool, true, false, List, [], flat_map, length, Option, Some, None, Result, Ok, Err, IfOk}
 use Rattle.tim_base.specs.Told.{IsTold}
 use Rattle.tim_base.specs.Logs.{Offered, Fetched}
 use Rattle.tim_base.specs.declared.sink.recorded.Offer.{Offer}

@@ -4,19 +4,19 @@ use std::test::Fail;
 
 #[test]
 fn reads_back_a_written_file(rt: HostRuntime) -> Result<(), Fail> {
-    let mut shelf = FileShelf::new(&rt);
+    let mut shelf = FileShelf::new(rt.alloc(), &rt);
     let mut bytes = Vec::new(rt.alloc());
     fs::write(&rt, "shelf_test.txt", "one\ntwo\n")?;
     let read = shelf.fetch(rt.alloc(), "shelf_test.txt", &mut bytes);
     fs::remove_file(&rt, "shelf_test.txt")?;
     assert_eq!(rt; read, Ok(()));
     assert_eq!(rt; bytes.as_slice(), b"one\ntwo\n".as_slice());
-    assert_eq!(rt; shelf.faults, 0);
+    assert_eq!(rt; shelf.named.len(), 0);
 
     let absent = shelf.fetch(rt.alloc(), "shelf_test.txt", &mut bytes);
     assert_eq!(rt; absent, Err(FetchFault::Failed));
     assert_eq!(rt; bytes.len(), 8);
-    assert_eq!(rt; shelf.faults, 1);
+    assert_eq!(rt; shelf.named.len(), 1);
     Ok(())
 }
 
@@ -26,7 +26,7 @@ fn fetch_of(
     name: &str,
     length: usize,
 ) -> Result<(Result<(), FetchFault>, bool), Fail> {
-    let mut shelf = FileShelf::new(rt);
+    let mut shelf = FileShelf::new(rt.alloc(), rt);
     let mut into = Vec::new(rt.alloc());
     let bytes = vec![in rt.alloc(); 7u8; length]?;
     fs::write(rt, name, bytes.as_slice())?;
@@ -51,7 +51,7 @@ fn files_about_the_limit(rt: HostRuntime) -> Result<(), Fail> {
 #[test]
 fn names_with_spaces(rt: HostRuntime) -> Result<(), Fail> {
     assert_eq!(rt; fetch_of(&rt, " shelf test ", 3)?, (Ok(()), true));
-    let mut shelf = FileShelf::new(&rt);
+    let mut shelf = FileShelf::new(rt.alloc(), &rt);
     let mut into = Vec::new(rt.alloc());
     fs::write(&rt, " shelf test ", "one")?;
     let trimmed = shelf.fetch(rt.alloc(), "shelf test", &mut into);
