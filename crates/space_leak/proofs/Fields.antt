@@ -1,5 +1,5 @@
 -- Fields and lines of classes, one after another.
-use Rattle.std.proofs.Common.{◌≡◌, ◌∙◌, refl, sym, ap, subst, ℕ, zero, suc, ◌+◌, ◌<◌, ◌≤◌, List, [], ◌∷◌, ◌++◌, length, map, drop, get_or, codes, arith}
+use Rattle.std.proofs.Common.{◌≡◌, ◌∙◌, refl, sym, ap, ℕ, zero, suc, ◌+◌, ◌<◌, ◌≤◌, List, [], ◌∷◌, ◌++◌, length, map, drop, get_or, codes, arith}
 use Rattle.std.proofs.Common.{drop-cons, add-one, append_assoc, append-nil, Some, None, Vec, Global}
 use Rattle.std.proofs.lemmas.Option.{same_Some}
 use Rattle.leak_classes.specs.Views.{class_of}
@@ -9,7 +9,7 @@ use Rattle.mit_syntax.specs.Declarations.{Declaration}
 use Rattle.label_code.specs.Machine.{Event}
 use Rattle.leak_audit.specs.declared.sighting.Sighting.{Sighting}
 use Rattle.leak_audit.specs.Observed.{event_of}
-use Rattle.seen_line.specs.Field.{item_of, spaced, field_text}
+use Rattle.seen_line.specs.Field.{item_of, spaced}
 use Rattle.space_leak.specs.Text.{class_line, class_lines}
 
 -- what stands at a place, and what comes after it

@@ -1,5 +1,5 @@
 -- Of a space one thing is told.
-use Rattle.std.proofs.Common.{◌≡◌, ◌∙◌, ◌⊎◌, ◌<◌, ◌≤◌, ◌++◌, refl, sym, ap, subst, ℕ, List, [], Option, None, Some, Result, Ok, Err, inl, inr, ⊎_elim, arith}
+use Rattle.std.proofs.Common.{◌≡◌, ◌∙◌, ◌⊎◌, ◌<◌, ◌≤◌, ◌++◌, refl, sym, ap, subst, ℕ, List, [], Option, None, Some, Ok, Err, inl, inr, ⊎_elim, arith}
 use Rattle.std.proofs.lemmas.Bool.{cases_lt}
 use Rattle.label_lattice.specs.declared.label.Label.{Label}
 use Rattle.timing_types.specs.Labelled.{LabelledProgram}
@@ -9,8 +9,7 @@ use Rattle.leak_classes.specs.Classes.{Classes, no_classes}
 use Rattle.leak_classes.proofs.Walked.{walk, classes_walk, fault_walk}
 use Rattle.leak_numbers.proofs.Lines.{one_text}
 use Rattle.space_starts.specs.Space.{SpaceValue, size_of}
-use Rattle.space_starts.specs.declared.space.Interval.{Interval}
-use Rattle.space_walk.specs.Agreeing.{IsFirstRanging, NoneRanges, Ranges}
+use Rattle.space_walk.specs.Agreeing.{IsFirstRanging}
 use Rattle.space_walk.specs.Shown.{one}
 use Rattle.tool_texts.specs.declared.status.Status.{Status}
 use Rattle.tool_texts.specs.declared.status.Status.TheVariants as status

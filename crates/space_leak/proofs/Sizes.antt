@@ -1,5 +1,5 @@
 -- The sizes of classes.
-use Rattle.std.proofs.Common.{◌≡◌, ◌∙◌, refl, sym, ap, subst, ℕ, zero, suc, ◌+◌, ◌<◌, ◌≤◌, List, [], ◌∷◌, map, Bool, true, false, cond, arith, Vec, Global}
+use Rattle.std.proofs.Common.{◌≡◌, refl, ap, ℕ, zero, suc, ◌+◌, List, [], ◌∷◌, map, Bool, true, false, cond, arith, Vec, Global}
 use Rattle.fixed_log.specs.Entropy.{AllSome, starts}
 use Rattle.label_code.specs.Machine.{Event}
 use Rattle.cycle_machine.specs.declared.end.RunEnd.{RunEnd}

@@ -1,5 +1,5 @@
 -- What is told of a space, and what stops it.
-use Rattle.std.proofs.Common.{◌≡◌, ◌∙◌, refl, sym, ap, subst, ℕ, ◌≤◌, List, [], ◌++◌, Option, Some, None, Result, Ok, Err, inl, inr, append_assoc}
+use Rattle.std.proofs.Common.{◌≡◌, ◌∙◌, refl, sym, ap, subst, ℕ, List, [], ◌++◌, Some, inl, inr, append_assoc}
 use Rattle.label_lattice.specs.declared.label.Label.{Label}
 use Rattle.label_lattice.specs.Order.{Order}
 use Rattle.timing_types.specs.Labelled.{LabelledProgram}
@@ -8,7 +8,6 @@ use Rattle.class_counts.specs.Tally.{total}
 use Rattle.leak_classes.specs.Classes.{Classes}
 use Rattle.leak_numbers.specs.Numbers.{AreNumbers, NumbersPut}
 use Rattle.space_starts.specs.Space.{SpaceValue, size_of}
-use Rattle.space_walk.specs.Shown.{one}
 use Rattle.space_walk.proofs.Same.{all_agree}
 use Rattle.tool_stages.specs.declared.envs.Environment.{Environment}
 use Rattle.tool_stages.specs.Envs.{environment}

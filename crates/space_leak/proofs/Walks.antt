@@ -1,11 +1,11 @@
 -- Walks in an environment and over histories.
-use Rattle.std.proofs.Common.{◌≡◌, ◌∙◌, refl, sym, ap, subst, ℕ, zero, suc, ◌+◌, ◌<◌, ◌≤◌, List, Result, Ok, Err, arith}
+use Rattle.std.proofs.Common.{◌≡◌, ◌∙◌, refl, sym, ap, ℕ, zero, suc, ◌+◌, ◌<◌, ◌≤◌, List, arith}
 use Rattle.env_contract.specs.declared.place.Touch.{Touch}
 use Rattle.env_contract.specs.Env.{Env}
 use Rattle.label_lattice.specs.Order.{Order}
 use Rattle.timing_types.specs.Labelled.{LabelledProgram, order_of, labels_of}
 use Rattle.label_code.specs.Machine.{Event}
-use Rattle.label_code.specs.Shaped.{Code, IsShaped}
+use Rattle.label_code.specs.Shaped.{IsShaped}
 use Rattle.label_code.specs.Visible.{visible}
 use Rattle.label_code.specs.Run.{run_from}
 use Rattle.code_lower.specs.Lowered.{lowered}

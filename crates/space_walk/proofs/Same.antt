@@ -1,6 +1,6 @@
 -- Two starts of a space have one value where a variable has one.
-use Rattle.std.proofs.Common.{◌≡◌, ◌∙◌, refl, sym, ap, subst, ℕ, ℤ, pos, zero, suc, ◌+◌, ◌+ℤ◌, ◌<◌, ◌≤◌, List, [], ◌∷◌, length, map, get_or, Some, arith}
-use Rattle.std.specs.Prelude.{All, slice_get}
+use Rattle.std.proofs.Common.{◌≡◌, refl, ap, ℕ, pos, zero, suc, ◌+ℤ◌, ◌<◌, ◌≤◌, List, [], ◌∷◌, length, get_or, Some, arith}
+use Rattle.std.specs.Prelude.{slice_get}
 use Rattle.env_contract.specs.declared.place.Touch.{Touch}
 use Rattle.env_contract.specs.Env.{Env}
 use Rattle.label_lattice.specs.Order.{Order}
@@ -10,8 +10,7 @@ use Rattle.start_space.specs.Space.{IsChoice, nth}
 use Rattle.start_space.proofs.Numbers.{chosen as choice_at}
 use Rattle.space_starts.specs.declared.space.Interval.{Interval}
 use Rattle.space_starts.specs.Space.{SpaceValue, counts, chosen, size_of, start_at}
-use Rattle.leak_audit.specs.Agreement.{start_of}
-use Rattle.space_walk.specs.Agreeing.{Ranges, NoneRanges, AllAgree}
+use Rattle.space_walk.specs.Agreeing.{NoneRanges, AllAgree}
 
 -- a variable that has one value has it in each choice
 pub same_value : (is : List Interval) (cs ds : List ℕ) (x : ℕ) → IsChoice (counts is) cs → IsChoice (counts is) ds

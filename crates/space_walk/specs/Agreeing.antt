@@ -1,5 +1,5 @@
 -- When the starts of a space agree for an observer: each variable that it sees has one value.
-use Rattle.std.specs.Prelude.{◌≡◌, ◌<◌, ℕ, List, Option, Some, None, slice_get}
+use Rattle.std.specs.Prelude.{◌≡◌, ◌<◌, ℕ, List, Some, slice_get}
 use Rattle.env_contract.specs.declared.place.Touch.{Touch}
 use Rattle.env_contract.specs.Env.{Env}
 use Rattle.label_lattice.specs.Lattice.{Flows}

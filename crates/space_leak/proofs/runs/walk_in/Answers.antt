@@ -1,4 +1,4 @@
-use Rattle.std.proofs.Common.{◌≡◌, sym, subst, ◌-◌, arith}
+use Rattle.std.proofs.Common.{◌≡◌, subst, ◌-◌, arith}
 use Rattle.std.proofs.lemmas.Result.{IfOk-weaker, IfErr-weaker}
 use Rattle.label_code.specs.Shaped.{IsShaped}
 use Rattle.leak_classes.specs.Walk.{AreClasses, IsWalkFault}

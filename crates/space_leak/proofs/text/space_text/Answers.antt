@@ -1,9 +1,9 @@
-use Rattle.std.proofs.Common.{◌≡◌, ◌∙◌, sym, ap, subst, ◌≤◌, ◌++◌, arith}
+use Rattle.std.proofs.Common.{◌∙◌, sym, ap, subst, ◌++◌, arith}
 use Rattle.mit_syntax.specs.Program.{Syntax}
 use Rattle.space_leak.specs.Text.{class_lines}
 use Rattle.fixed_log.specs.Entropy.{AllSome, starts}
 use Rattle.leak_classes.specs.Views.{classes_of}
-use Rattle.space_leak.proofs.Sizes.{sizes, sizes_shown, total_is}
+use Rattle.space_leak.proofs.Sizes.{sizes_shown, total_is}
 use Rattle.space_leak.proofs.Telling.{space_put}
 use Rattle.space_leak.proofs.text.space_text.Goals as goal
 

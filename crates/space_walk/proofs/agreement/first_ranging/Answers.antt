@@ -1,4 +1,4 @@
-use Rattle.std.proofs.Common.{◌≡◌, ◌∙◌, sym, ap, subst, ◌<◌, ◌≤◌, pos, get_or, length, ⊎_elim, arith}
+use Rattle.std.proofs.Common.{◌≡◌, sym, ap, subst, ◌<◌, ◌≤◌, pos, get_or, length, ⊎_elim, arith}
 use Rattle.std.proofs.lemmas.Bool.{cases_lt}
 use Rattle.space_starts.specs.declared.space.Interval.{Interval}
 use Rattle.mit_syntax.specs.Declarations.{variables}

@@ -1,8 +1,7 @@
-use Rattle.std.proofs.Common.{◌≡◌, ◌<◌, ◌≤◌, ◌+◌, ◌^◌, sym, subst, refl, inl, inr, arith}
+use Rattle.std.proofs.Common.{◌≡◌, ◌≤◌, ◌^◌, sym, subst, refl, inl, inr, arith}
 use Rattle.std.proofs.lemmas.Bool.{cases_lt}
 use Rattle.std.specs.Prelude.{Result, Ok, Err, IfErr}
 use Rattle.std.specs.Result.{IsErrAnd}
-use Rattle.class_counts.specs.Tally.{total}
 use Rattle.space_starts.specs.Space.{seen, size_of}
 use Rattle.leak_classes.specs.declared.fault.WalkFault.{WalkFault}
 use Rattle.space_walk.proofs.Walking.{none_walked, one_walked, refused, kept, all_walked}
