@@ -156,7 +156,9 @@ module _ {V : Type 0} (eq : V → V → Bool) (same : (x : V) → eq x x ≡ tru
       go : Old es (add eq es z w) z ⊎ New es (add eq es z w) z
           → firsts_in n (xs ++ z ∷ []) (add eq es z w)
           ≡ cond (nat_lt (length es) (length (add eq es z w))) (firsts_in n xs es ++ (n + (length xs + 1)) ∷ []) (firsts_in n xs es)
-      go (inl o) = map_keys late (add eq es z w) ∙ ap (map late) o.keys_are ∙ as_before ∙ sym (map_keys soon es) ∙ no (nat_lt (length es) (length (add eq es z w))) refl
+      go (inl o) =
+          map_keys late (add eq es z w) ∙ ap (map late) o.keys_are ∙ as_before ∙ sym (map_keys soon es)
+          ∙ no (nat_lt (length es) (length (add eq es z w))) refl
         where
           no : (b : Bool) → nat_lt (length es) (length (add eq es z w)) ≡ b
               → firsts_in n xs es ≡ cond b (firsts_in n xs es ++ (n + (length xs + 1)) ∷ []) (firsts_in n xs es)

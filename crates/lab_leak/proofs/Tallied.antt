@@ -84,6 +84,7 @@ firsts_all ys (z ∷ zs) k n e h =
 pub are_tallied : (zs : List (List Event)) → AreTallied zs
 are_tallied zs = record {
   distinct =
-      sym (length-map (classes_of_runs zs).seen (λ c. c.0)) ∙ ap length (ap (λ (k : Classes). shown_by k) (sym (folded zs)) ∙ shown_all no_classes 0 zs ∙ different zs);
+      sym (length-map (classes_of_runs zs).seen (λ c. c.0))
+      ∙ ap length (ap (λ (k : Classes). shown_by k) (sym (folded zs)) ∙ shown_all no_classes 0 zs ∙ different zs);
   firsts = subst (λ (k : Classes). AreFirsts zs k.seen k.firsts) (folded zs) (firsts_all [] zs no_classes 0 refl tt);
 }

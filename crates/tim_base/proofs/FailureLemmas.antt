@@ -21,7 +21,8 @@ times_end name (m ∷ ns) n = let e = times_end name ns n in omega (arith, e)
 raised_later : (n : ℕ) → n ≤ 2 ^ 64 - 1 → n ≤ raised n
 raised_later n l = omega (arith, l)
 
-pub counts_later : (old new : Failures) (name : List ℕ) → old.lost ≤ 2 ^ 64 - 1 → IsOneMore old new name → (file : List ℕ) → faults_of old file ≤ faults_of new file
+pub counts_later : (old new : Failures) (name : List ℕ) → old.lost ≤ 2 ^ 64 - 1 → IsOneMore old new name → (file : List ℕ)
+    → faults_of old file ≤ faults_of new file
 counts_later old new name few (inl e) file =
     let more : faults_of new file ≡ times file (old.named ++ name ∷ []) + old.lost = ap (λ (f : Failures). faults_of f file) e in
     let end = times_end file old.named name in
