@@ -11,7 +11,7 @@ abbrev pub classes_from : Classes → ℕ → List (List Event) → Classes
 classes_from k n [] = k
 classes_from k n (z ∷ zs) = classes_from (with_start k n z 1) (n + 1) zs
 
-light : List (List Event) → List (List Event × ℕ)
+abbrev light : List (List Event) → List (List Event × ℕ)
 light zs = map (λ z. (z, 1)) zs
 
 light_end : (zs : List (List Event)) (z : List Event) → light zs ++ (z, 1) ∷ [] ≡ light (zs ++ z ∷ [])
