@@ -21,7 +21,7 @@ light_end (y ∷ zs) z = ap (λ r. (y, 1) ∷ r) (light_end zs z)
 folded_from : (ys zs : List (List Event)) (n : ℕ) → n ≡ length ys → classes_from (classes_of_runs ys) n zs ≡ classes_of_runs (ys ++ zs)
 folded_from ys [] n e = ap classes_of_runs (sym (append-nil ys))
 folded_from ys (z ∷ zs) n e =
-    let long = length-map ys (λ z. (z, 1)) in
+    let long : length (light ys) ≡ length ys = length-map ys (λ z. (z, 1)) in
     let after = length-append ys (z ∷ []) in
     ap (λ k. classes_from k (n + 1) zs) (one_more 0 n (light ys) z 1 (omega (arith, e, long)) ∙ ap (classes_shown 0) (light_end ys z))
     ∙ folded_from (ys ++ z ∷ []) zs (n + 1) (omega (arith, e, after)) ∙ ap classes_of_runs (append_assoc ys (z ∷ []) zs)
