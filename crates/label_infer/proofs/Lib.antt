@@ -10,7 +10,9 @@ pub mod Fill
 pub mod Seen
 pub mod Typed
 pub mod Joined
+pub mod Forms
 pub mod OfForms
+pub mod Staying
 pub mod Stays
 pub mod Taking
 pub mod Right

@@ -12,8 +12,9 @@ use Rattle.mit_syntax.specs.Declarations.{Declaration}
 use Rattle.mit_syntax.specs.Valid.{AreMarksBelow, AreKnown, AreNumbered}
 use Rattle.timing_types.specs.Walk.{Side, OfCommand, OfVariable, OfLevel}
 use Rattle.label_infer.specs.Given.{written_levels}
-use Rattle.label_infer.specs.Constraints.{LeftSide, Constraint, fixed, both, variable_form, label_form, index_form, put_form, here_form, own_form, after_form}
-use Rattle.label_infer.specs.Constraints.{loop_form, demand_form, end_form, set_constraint, level_constraint, constraints}
+use Rattle.label_infer.specs.Constraints.{LeftSide, Constraint, fixed, both, variable_form, label_form, index_form}
+use Rattle.label_infer.specs.Constraints.{set_constraint, level_constraint}
+use Rattle.label_infer.proofs.Forms.{put_form, here_form, own_form, after_form, loop_form, demand_form, guarded_end, guarded}
 use Rattle.label_infer.proofs.Placed.{length_levels}
 
 -- the label is a variable's without a written one, or a level that is not written
@@ -69,7 +70,7 @@ module _ (lat : Lattice) (n : ℕ) (low : lat.bottom < n) (closed : (a b : ℕ) 
   five a b c d e f h k i j = three (lat.join (lat.join a b) c) d e (three a b c f h k) i j
 
   abbrev E : Plan → LeftSide → LeftSide → LeftSide
-  E = end_form lat free written
+  E = guarded_end lat free written
 
   er_base : (o : Option (Label × Label)) (pc : LeftSide) (e : Expression) → AreMarksBelow n o → pc.base < n
       → (own_form o (here_form lat free written pc e)).base < n
@@ -115,7 +116,7 @@ module _ (lat : Lattice) (n : ℕ) (low : lat.bottom < n) (closed : (a b : ℕ) 
   O = IsOpen n free W
 
   abbrev N : Plan → LeftSide → LeftSide → List Constraint
-  N = constraints lat free written
+  N = guarded lat free written
 
   set_open : (x : ℕ) (f : LeftSide) → f.base < n → Each O (set_constraint (free x) x f)
   set_open x f h = go (free x) refl

@@ -11,8 +11,9 @@ use Rattle.timing_types.specs.declared.rule.Rule.TheVariants.{Mtg as RMtg}
 use Rattle.timing_types.specs.Typing.{label_of, index_label}
 use Rattle.timing_types.specs.Walk.{OfLevel, Condition, demand, put_index, here, after, loop_start, walk_end, conditions, Meets}
 use Rattle.label_infer.specs.Least.{own, is_free, is_omitted}
-use Rattle.label_infer.specs.Constraints.{LeftSide, value, Constraint, both, variable_form, label_form, index_form, put_form, here_form, own_form, after_form}
-use Rattle.label_infer.specs.Constraints.{loop_form, demand_form, end_form, set_constraint, level_constraint, constraints, right_of, AllMet}
+use Rattle.label_infer.specs.Constraints.{LeftSide, value, Constraint, both, variable_form, label_form, index_form}
+use Rattle.label_infer.specs.Constraints.{set_constraint, level_constraint, right_of, AllMet}
+use Rattle.label_infer.proofs.Forms.{put_form, here_form, own_form, after_form, loop_form, demand_form, guarded_end, guarded}
 use Rattle.label_infer.proofs.Values.{fixed_value, join_value, variable_value, label_value, index_value, put_value, here_value}
 use Rattle.label_infer.proofs.Fill.{owned, fill}
 
@@ -157,7 +158,7 @@ module _ (lat : Lattice) (ll : IsLattice lat) (n : ℕ) (g lv : ℕ → ℕ) (ds
   ends p P T = walk_end lat g (fill lat g lv p P) P T
 
   abbrev E : Plan → LeftSide → LeftSide → LeftSide
-  E = end_form lat free written
+  E = guarded_end lat free written
 
   -- the end of the walk of forms is that of the walk
   pub end_value : (p : Plan) (pc t : LeftSide) (P T : ℕ) → val pc ≡ P → val t ≡ T → val (E p pc t) ≡ ends p P T
@@ -192,7 +193,7 @@ module _ (lat : Lattice) (ll : IsLattice lat) (n : ℕ) (g lv : ℕ → ℕ) (ds
   conds p P T = conditions lat g (fill lat g lv p P) P T
 
   abbrev N : Plan → LeftSide → LeftSide → List Constraint
-  N = constraints lat free written
+  N = guarded lat free written
 
   set_seen : (x : ℕ) (d : LeftSide) (D : ℕ) (ns : List Constraint) (cs : List Condition) → val d ≡ D → seen ns ≡ kept ds cs →
       seen (set_constraint (free x) x d ++ ns) ≡ cond (free x) ((D, g x) ∷ kept ds cs) (kept ds cs)

@@ -25,7 +25,9 @@ use Rattle.label_infer.proofs.Fill.{fill, fills}
 use Rattle.label_infer.proofs.Placed.{from_map, from_pair, from_all, length_levels}
 use Rattle.label_infer.proofs.Ranges.{joins_below}
 use Rattle.label_infer.proofs.Right.{Each, all_both, IsOpen, IsRight, all_open}
-use Rattle.label_infer.proofs.Seen.{Hold, kept_hold, hold_meet, seen_hold, hold_seen, constraints_seen}
+use Rattle.label_infer.proofs.Seen.{Hold, seen, kept_hold, hold_meet, seen_hold, hold_seen, constraints_seen}
+use Rattle.label_infer.proofs.Forms.{guarded}
+use Rattle.label_infer.proofs.OfForms.{constraints_at}
 
 -- a variable without a written label is one
 free_within : (cs : List Cell) (x : ℕ) → is_unwritten (slice_get cs x) ≡ true → x < length cs
@@ -74,6 +76,10 @@ module _ (s : Syntax) (valid : IsValid s) where
   abbrev nv : ℕ
   nv = variables s.declarations
 
+  -- the constraints as the walk that joins the guards into the time gives them
+  as_guarded : constraints_of s ≡ guarded lat (is_free s.declarations) (written_in s.declarations b) (plan_of s) (fixed b) (fixed b)
+  as_guarded = sym (constraints_at lat ll (is_free s.declarations) (written_in s.declarations b) (plan_of s))
+
   -- the conditions of a labelling with omitted right sides, as constraints
   constraints_met : (l : Labelling) → Labels s l → MeetsOmitted s l → AllMet lat nv (variable_of s.order l) (level_of s.order l) (constraints_of s)
   constraints_met l h m =
@@ -86,7 +92,8 @@ module _ (s : Syntax) (valid : IsValid s) where
       let met = subst (λ z. Meets lat (is_omitted ds) (conditions lat g z b b)) tree m in
       let holds = kept_hold lat ds (conditions lat g (fill lat g lv (plan_of s) b) b b) met in
       let fv = fixed_value lat ll nv g b in
-      let is = constraints_seen lat ll nv g lv ds w (small_of ds) keeps (plan_of s) (fixed b) (fixed b) b b fv fv in
+      let is = ap (seen lat ll nv g lv ds w (small_of ds) keeps) as_guarded 
+      ∙ constraints_seen lat ll nv g lv ds w (small_of ds) keeps (plan_of s) (fixed b) (fixed b) b b fv fv in
       hold_seen lat ll nv g lv ds w (small_of ds) keeps (constraints_of s) (subst (λ z. Hold lat z) (sym is) holds)
 
   constraints_back : (l : Labelling) → Labels s l → AllMet lat nv (variable_of s.order l) (level_of s.order l) (constraints_of s) → MeetsOmitted s l
@@ -98,7 +105,8 @@ module _ (s : Syntax) (valid : IsValid s) where
       let keeps = keeps_of s l.variables (record { fit = h.keeps.variables_fit; below = h.keeps.variables_below; kept = h.keeps.declared }) in
       let tree = fills lat g lv (marks_of s.order l) (plan_of s) 0 b h.own in
       let fv = fixed_value lat ll nv g b in
-      let is = constraints_seen lat ll nv g lv ds w (small_of ds) keeps (plan_of s) (fixed b) (fixed b) b b fv fv in
+      let is = ap (seen lat ll nv g lv ds w (small_of ds) keeps) as_guarded 
+      ∙ constraints_seen lat ll nv g lv ds w (small_of ds) keeps (plan_of s) (fixed b) (fixed b) b b fv fv in
       let holds = subst (λ z. Hold lat z) is (seen_hold lat ll nv g lv ds w (small_of ds) keeps (constraints_of s) m) in
       let met = hold_meet lat ds (conditions lat g (fill lat g lv (plan_of s) b) b b) holds in
       subst (λ z. Meets lat (is_omitted ds) (conditions lat g z b b)) (sym tree) met
@@ -203,9 +211,10 @@ opens : (s : Syntax) → IsValid s → Each (IsOpen s.order.size (is_free s.decl
 opens s valid =
     let b = s.order.bottom in
     let some = valid.order.table.some in
-    all_open (lattice_of s.order) s.order.size some (joins_below s.order valid.order) (is_free s.declarations) (written_in s.declarations b)
+    subst (Each (IsOpen s.order.size (is_free s.declarations) (written_levels (plan_of s)))) (sym (as_guarded s valid))
+    (all_open (lattice_of s.order) s.order.size some (joins_below s.order valid.order) (is_free s.declarations) (written_in s.declarations b)
     (written_below s valid) (written_levels (plan_of s))
-    s.declarations (plan_of s) (fixed b) (fixed b) 0 [] [] valid.known some some valid.numbered refl (sym (append-nil (written_levels (plan_of s))))
+    s.declarations (plan_of s) (fixed b) (fixed b) 0 [] [] valid.known some some valid.numbered refl (sym (append-nil (written_levels (plan_of s)))))
 
 pub open_at : (s : Syntax) → IsValid s → (cs : List Condition) → constraints_in cs ≡ constraints_of s → (i : ℕ) (c : Condition) → slice_get cs i ≡ Some c
     → IsOpen s.order.size (is_free s.declarations) (written_levels (plan_of s)) (constraint_of c)

@@ -6,7 +6,8 @@ use Rattle.label_lattice.specs.Lattice.{Lattice, Flows, IsLattice}
 use Rattle.mit_syntax.specs.Expression.{Expression, Number, Variable, Binary, Element}
 use Rattle.timing_types.specs.Typing.{label_of, index_label}
 use Rattle.timing_types.specs.Walk.{here, put_index}
-use Rattle.label_infer.specs.Constraints.{LeftSide, value_from, value, fixed, both, variable_form, label_form, index_form, put_form, here_form}
+use Rattle.label_infer.specs.Constraints.{LeftSide, value_from, value, fixed, both, variable_form, label_form, index_form}
+use Rattle.label_infer.proofs.Forms.{put_form, here_form}
 
 module _ (lat : Lattice) (ll : IsLattice lat) where
   pub base_up : (g : ℕ → ℕ) (b : ℕ) (has : ℕ → Bool) (n : ℕ) → Flows lat b (value_from lat g b has n)

@@ -4,12 +4,14 @@ use Rattle.std.specs.Prelude.{ℕ, zero, suc, Bool, true, false, cond, ◌||◌,
 use Rattle.label_lattice.specs.declared.label.Label.{Label}
 use Rattle.label_lattice.specs.Lattice.{Lattice, Flows}
 use Rattle.label_lattice.specs.Order.{lattice_of}
-use Rattle.mit_syntax.specs.Expression.{Expression, Number, Variable, Binary, Element}
-use Rattle.mit_syntax.specs.Todo.{Done, Skip, Assign, Put, Sleep, If, While, Mitigate}
-use Rattle.mit_syntax.specs.Plan.{Plan}
+use Rattle.mit_syntax.specs.Expression.{Expression}
+use Rattle.mit_syntax.specs.Plan.{Written, Plan}
 use Rattle.mit_syntax.specs.Declarations.{Declaration, cell_at}
 use Rattle.mit_syntax.specs.Program.{Syntax, plan_of}
 use Rattle.timing_types.specs.Walk.{Side, OfCommand, OfVariable, OfLevel}
+use Rattle.timing_types.specs.Left.{Right, OfCommand as AtCommand, OfVariable as AtVariable, OfLevel as AtLevel, Demand}
+use Rattle.timing_types.specs.OneWalk as walk
+use Rattle.timing_types.specs.OneWalk.{Sides}
 use Rattle.label_infer.specs.Least.{is_free}
 
 -- the fixed label, and which variables' labels are joined to it
@@ -33,10 +35,10 @@ pub record Constraint : Type 0 where
 abbrev pub fixed : ℕ → LeftSide
 fixed a = record { base = a; has = λ y. false }
 
--- the read label of a command at `pc | li`
-abbrev pub own_form : Option (Label × Label) → LeftSide → LeftSide
-own_form None h = h
-own_form (Some p) h = fixed p.0.number
+-- the read label that a command writes: without marks it has `pc | li`, which is in the left side anyway
+abbrev pub own_read : Lattice → Option (Label × Label) → LeftSide
+own_read lat None = fixed lat.bottom
+own_read lat (Some p) = fixed p.0.number
 
 -- the condition on the label of an assigned variable, where that is omitted
 abbrev pub set_constraint : Bool → ℕ → LeftSide → List Constraint
@@ -57,71 +59,31 @@ module _ (lat : Lattice) where
     abbrev pub variable_form : ℕ → LeftSide
     variable_form x = cond (free x) (record { base = lat.bottom; has = λ y. false || eqb x y }) (fixed (written x))
 
+    -- forms as left sides of the one walk
+    abbrev pub form_sides : Sides LeftSide Written
+    form_sides = record { none = fixed lat.bottom; both = both; variable = λ how w. variable_form; read = λ how w. own_read lat w.labels }
+
     abbrev pub label_form : Expression → LeftSide
-    label_form (Number n) = fixed lat.bottom
-    label_form (Variable x) = variable_form x
-    label_form (Binary o l r) = both (label_form l) (label_form r)
-    label_form (Element f n i) = both (variable_form f) (label_form i)
+    label_form e = walk.reads_by form_sides variable_form e
 
     abbrev pub index_form : Expression → LeftSide
-    index_form (Number n) = fixed lat.bottom
-    index_form (Variable x) = fixed lat.bottom
-    index_form (Binary o l r) = both (index_form l) (index_form r)
-    index_form (Element f n i) = label_form i
+    index_form e = walk.index_reads_by form_sides variable_form e
 
-    abbrev pub put_form : Expression → Expression → LeftSide
-    put_form i e = both (label_form i) (index_form e)
+    abbrev pub end_form : Plan → LeftSide → LeftSide
+    end_form p t = walk.ends form_sides p t
 
-    abbrev pub here_form : LeftSide → Expression → LeftSide
-    here_form pc e = both pc (index_form e)
+    -- of the conditions of the one walk those whose right side is omitted, in the same order
+    abbrev pub omitted_by : Right (Option Label) → LeftSide → List Constraint
+    omitted_by AtCommand f = []
+    omitted_by (AtVariable x) f = set_constraint (free x) x f
+    omitted_by (AtLevel k l) f = level_constraint l k f
 
-    abbrev pub after_form : LeftSide → LeftSide → Expression → LeftSide
-    after_form t er e = both (both t (label_form e)) er
+    abbrev pub omitted : List (Demand LeftSide Written (Option Label)) → List Constraint
+    omitted [] = []
+    omitted (d ∷ ds) = omitted_by d.side d.have ++ omitted ds
 
-    abbrev pub loop_form : LeftSide → LeftSide → Expression → LeftSide
-    loop_form t er e = both (both (label_form e) t) er
-
-    abbrev pub demand_form : LeftSide → LeftSide → LeftSide → LeftSide → LeftSide → LeftSide
-    demand_form pc t er le li = both (both (both (both le li) pc) t) er
-
-    abbrev pub end_form : Plan → LeftSide → LeftSide → LeftSide
-    end_form Done pc t = t
-    end_form (Skip w p) pc t = end_form p pc (both t (own_form w.labels pc))
-    end_form (Assign w x e p) pc t =
-        end_form p pc (both (variable_form x) (demand_form pc t (own_form w.labels (here_form pc e)) (label_form e) (index_form e)))
-    end_form (Put w f n i e p) pc t =
-        end_form p pc (both (variable_form f) (demand_form pc t (own_form w.labels (both pc (put_form i e))) (label_form e) (put_form i e)))
-    end_form (Sleep w e p) pc t = end_form p pc (after_form t (own_form w.labels (here_form pc e)) e)
-    end_form (If w e a b p) pc t =
-        let start = after_form t (own_form w.labels (here_form pc e)) e in
-        let inner = both pc (label_form e) in
-        end_form p pc (both (end_form a inner start) (end_form b inner start))
-    end_form (While w e c p) pc t =
-        end_form p pc (end_form c (both pc (label_form e)) (loop_form t (own_form w.labels (here_form pc e)) e))
-    end_form (Mitigate w k l e c p) pc t = end_form p pc (after_form t (own_form w.labels (here_form pc e)) e)
-
-    -- all conditions whose right side is omitted, in the order of the walk
     abbrev pub constraints : Plan → LeftSide → LeftSide → List Constraint
-    constraints Done pc t = []
-    constraints (Skip w p) pc t = constraints p pc (both t (own_form w.labels pc))
-    constraints (Assign w x e p) pc t =
-        let d = demand_form pc t (own_form w.labels (here_form pc e)) (label_form e) (index_form e) in
-        set_constraint (free x) x d ++ constraints p pc (both (variable_form x) d)
-    constraints (Put w f n i e p) pc t =
-        let d = demand_form pc t (own_form w.labels (both pc (put_form i e))) (label_form e) (put_form i e) in
-        set_constraint (free f) f d ++ constraints p pc (both (variable_form f) d)
-    constraints (Sleep w e p) pc t = constraints p pc (after_form t (own_form w.labels (here_form pc e)) e)
-    constraints (If w e a b p) pc t =
-        let start = after_form t (own_form w.labels (here_form pc e)) e in
-        let inner = both pc (label_form e) in
-        constraints a inner start ++ (constraints b inner start ++ constraints p pc (both (end_form a inner start) (end_form b inner start)))
-    constraints (While w e c p) pc t =
-        let inner = both pc (label_form e) in
-        let end = end_form c inner (loop_form t (own_form w.labels (here_form pc e)) e) in
-        constraints c inner end ++ constraints p pc end
-    constraints (Mitigate w k l e c p) pc t =
-        let start = after_form t (own_form w.labels (here_form pc e)) e in
-        constraints c pc start ++ (level_constraint l k (end_form c pc start) ++ constraints p pc start)
+    constraints p pc t = omitted (walk.demands form_sides p pc t)
 
 -- the right side
 abbrev pub right_of : (ℕ → ℕ) → (ℕ → ℕ) → Side → ℕ

@@ -11,8 +11,7 @@ use Rattle.label_infer.specs.declared.constraints.Condition.{Condition}
 use Rattle.label_infer.specs.declared.constraints.Target.{Target}
 use Rattle.label_infer.specs.declared.constraints.Target.TheVariants.{Variable, Level}
 use Rattle.label_infer.specs.LeftSideOf.{left_side_of}
-use Rattle.label_infer.specs.Constraints.{LeftSide, Constraint, label_or, fixed, both, variable_form, label_form, index_form, put_form, after_form, loop_form}
-use Rattle.label_infer.specs.Constraints.{demand_form, set_constraint, end_form, constraints}
+use Rattle.label_infer.specs.Constraints.{LeftSide, Constraint, label_or, both, own_read, variable_form, label_form, set_constraint, end_form, constraints}
 
 abbrev pub lat_of : Known → Lattice
 lat_of k = lattice_of k.order
@@ -27,44 +26,42 @@ free_of k x = is_none (written_at k x)
 abbrev pub written_of : Known → ℕ → ℕ
 written_of k x = label_or (written_at k x) k.order.bottom
 
-abbrev pub end_of : Known → Plan → LeftSide → LeftSide → LeftSide
+abbrev pub end_of : Known → Plan → LeftSide → LeftSide
 end_of k = end_form (lat_of k) (free_of k) (written_of k)
 
 abbrev pub constraints_from : Known → Plan → LeftSide → LeftSide → List Constraint
 constraints_from k = constraints (lat_of k) (free_of k) (written_of k)
 
--- the labels that a command at pc and t leads to, with these marks
-abbrev pub own_of : Option (Label × Label) → LeftSide → LeftSide
-own_of None h = h
-own_of (Some p) h = fixed p.0.number
+abbrev pub label_of : Known → Expression → LeftSide
+label_of k = label_form (lat_of k) (free_of k) (written_of k)
 
-abbrev pub skip_of : Known → Option (Label × Label) → LeftSide → LeftSide → LeftSide
-skip_of k o pc t = both (lat_of k) t (own_of o pc)
-
+-- inside a guard
 abbrev pub inner_of : Known → LeftSide → Expression → LeftSide
-inner_of k pc e = both (lat_of k) pc (label_form (lat_of k) (free_of k) (written_of k) e)
+inner_of k pc e = both (lat_of k) pc (label_of k e)
 
-abbrev pub here_of : Known → LeftSide → Expression → LeftSide
-here_of k pc e = both (lat_of k) pc (index_form (lat_of k) (free_of k) (written_of k) e)
+-- the time after a command with these marks, where t was the time before: one that reads nothing, one that reads an expression,
+-- an assignment, and one to an element
+abbrev pub skip_of : Known → Option (Label × Label) → LeftSide → LeftSide
+skip_of k o t = both (lat_of k) t (own_read (lat_of k) o)
 
-abbrev pub after_of : Known → Option (Label × Label) → LeftSide → LeftSide → Expression → LeftSide
-after_of k o pc t e = after_form (lat_of k) (free_of k) (written_of k) t (own_of o (here_of k pc e)) e
+abbrev pub after_of : Known → Option (Label × Label) → LeftSide → Expression → LeftSide
+after_of k o t e = both (lat_of k) t (both (lat_of k) (label_of k e) (own_read (lat_of k) o))
 
-abbrev pub loop_of : Known → Option (Label × Label) → LeftSide → LeftSide → Expression → LeftSide
-loop_of k o pc t e = loop_form (lat_of k) (free_of k) (written_of k) t (own_of o (here_of k pc e)) e
+abbrev pub set_after : Known → Option (Label × Label) → LeftSide → ℕ → Expression → LeftSide
+set_after k o t x e = both (lat_of k) (after_of k o t e) (variable_form (lat_of k) (free_of k) (written_of k) x)
 
-abbrev pub assign_of : Known → Option (Label × Label) → LeftSide → LeftSide → Expression → LeftSide
-assign_of k o pc t e =
-    demand_form (lat_of k) (free_of k) (written_of k) pc t (own_of o (here_of k pc e)) (label_form (lat_of k) (free_of k) (written_of k) e)
-    (index_form (lat_of k) (free_of k) (written_of k) e)
+abbrev pub put_after : Known → Option (Label × Label) → LeftSide → ℕ → Expression → Expression → LeftSide
+put_after k o t f i e = both (lat_of k) (set_after k o t f e) (label_of k i)
 
-abbrev pub put_of : Known → Option (Label × Label) → LeftSide → LeftSide → Expression → Expression → LeftSide
-put_of k o pc t i e =
-    let li = put_form (lat_of k) (free_of k) (written_of k) i e in
-    demand_form (lat_of k) (free_of k) (written_of k) pc t (own_of o (both (lat_of k) pc li)) (label_form (lat_of k) (free_of k) (written_of k) e) li
+-- the left side of an assignment's first condition, and of one to an element
+abbrev pub around_of : Known → Option (Label × Label) → LeftSide → LeftSide → LeftSide
+around_of k o pc t = both (lat_of k) pc (both (lat_of k) (own_read (lat_of k) o) t)
 
-abbrev pub next_of : Known → ℕ → LeftSide → LeftSide
-next_of k x d = both (lat_of k) (variable_form (lat_of k) (free_of k) (written_of k) x) d
+abbrev pub set_left : Known → Option (Label × Label) → LeftSide → LeftSide → Expression → LeftSide
+set_left k o pc t e = both (lat_of k) (label_of k e) (around_of k o pc t)
+
+abbrev pub put_left : Known → Option (Label × Label) → LeftSide → LeftSide → Expression → Expression → LeftSide
+put_left k o pc t i e = both (lat_of k) (label_of k e) (both (lat_of k) (label_of k i) (around_of k o pc t))
 
 abbrev pub set_of : Known → ℕ → LeftSide → List Constraint
 set_of k x d = set_constraint (free_of k x) x d

@@ -2,7 +2,6 @@ pub mod Least
 pub mod Given
 pub mod Rows
 pub mod Constraints
-pub mod OneWalkForms
 pub mod Sets
 pub mod LeftSideOf
 pub mod ConstraintsOf

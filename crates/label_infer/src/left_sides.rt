@@ -2,9 +2,9 @@
 
 ghost use Rattle.std.specs.Prelude.{◌≡◌, ◌<◌, IfNone, IfOk};
 ghost use Rattle.label_infer.specs.LeftSideOf.{left_side_of};
-ghost use Rattle.label_infer.specs.Constraints.{variable_form, label_form, index_form, put_form, here_form, own_form, both};
-ghost use Rattle.label_infer.specs.ConstraintsOf.{lat_of, written_at, free_of, written_of, own_of, skip_of, assign_of};
-ghost use Rattle.label_infer.specs.ConstraintsOf.{put_of, after_of, loop_of, inner_of, next_of};
+ghost use Rattle.label_infer.specs.Constraints.{variable_form, label_form, own_read};
+ghost use Rattle.label_infer.specs.ConstraintsOf.{lat_of, written_at, free_of, written_of, inner_of, skip_of, after_of};
+ghost use Rattle.label_infer.specs.ConstraintsOf.{set_after, put_after, around_of, set_left, put_left};
 ghost use Rattle.mit_syntax.specs.Expression.{expression_of};
 
 use crate::left_side::{LeftSide, both, fixed};
@@ -63,56 +63,14 @@ pub(crate) fn label(e: &Expr, k: &Known) -> Result<LeftSide, AllocError>
     }
 }
 
-/// The join of the labels of the variables and arrays that stand in an index of an expression.
-pub(crate) fn index_label(e: &Expr, k: &Known) -> Result<LeftSide, AllocError>
-    ensures { IfOk result (λ f. left_side_of f ≡ index_form (lat_of k.now) (free_of k.now) (written_of k.now) (expression_of e.now)) }
-{
-    match e {
-        Expr::Number(_) | Expr::Variable(_) => Ok(fixed(k.order.bottom())),
-        Expr::Binary(_, left, right) => {
-            let one = index_label(left, k)?;
-            let other = index_label(right, k)?;
-            both(k, &one, &other)
-        }
-        Expr::Element {
-            first: _,
-            length: _,
-            index,
-        } => label(index, k),
-    }
-}
-
-/// The same of an assignment to an element: all of the index counts.
-fn put_label(index: &Expr, value: &Expr, k: &Known) -> Result<LeftSide, AllocError>
-    ensures { IfOk result (λ f. left_side_of f ≡ put_form (lat_of k.now) (free_of k.now) (written_of k.now) (expression_of index.now)
-        (expression_of value.now)) }
-{
-    let one = label(index, k)?;
-    let other = index_label(value, k)?;
-    both(k, &one, &other)
-}
-
-/// The read label of a command at `pc | li`.
-fn own(written: &Option<(Label, Label)>, here: LeftSide) -> LeftSide
-    ensures { left_side_of result ≡ own_of written.now (left_side_of here) }
+/// The read label that a command writes.
+fn own_read(written: &Option<(Label, Label)>, k: &Known) -> LeftSide
+    ensures { left_side_of result ≡ own_read (lat_of k.now) written.now }
 {
     match written {
         Some(pair) => fixed(pair.0),
-        None => here,
+        None => fixed(k.order.bottom()),
     }
-}
-
-/// The end label of a `skip`.
-pub(crate) fn skip_end(
-    written: &Option<(Label, Label)>,
-    pc: &LeftSide,
-    t: &LeftSide,
-    k: &Known,
-) -> Result<LeftSide, AllocError>
-    ensures { IfOk result (λ f. left_side_of f ≡ skip_of k.now written.now (left_side_of pc.now) (left_side_of t.now)) }
-{
-    let er = own(written, pc.copy()?);
-    both(k, t, &er)
 }
 
 /// The label inside a guard.
@@ -123,80 +81,95 @@ pub(crate) fn inner(pc: &LeftSide, e: &Expr, k: &Known) -> Result<LeftSide, Allo
     both(k, pc, &le)
 }
 
-/// `t | le | er`, the timing label after an expression is read.
+/// The time after a `skip`.
+pub(crate) fn skip_end(
+    written: &Option<(Label, Label)>,
+    t: &LeftSide,
+    k: &Known,
+) -> Result<LeftSide, AllocError>
+    ensures { IfOk result (λ f. left_side_of f ≡ skip_of k.now written.now (left_side_of t.now)) }
+{
+    let own = own_read(written, k);
+    both(k, t, &own)
+}
+
+/// The time after a command that reads an expression.
 pub(crate) fn after(
     written: &Option<(Label, Label)>,
-    pc: &LeftSide,
     t: &LeftSide,
     e: &Expr,
     k: &Known,
 ) -> Result<LeftSide, AllocError>
-    ensures { IfOk result (λ f. left_side_of f ≡ after_of k.now written.now (left_side_of pc.now) (left_side_of t.now) (expression_of e.now)) }
+    ensures { IfOk result (λ f. left_side_of f ≡ after_of k.now written.now (left_side_of t.now) (expression_of e.now)) }
 {
-    let li = index_label(e, k)?;
-    let here = both(k, pc, &li)?;
-    let er = own(written, here);
     let le = label(e, k)?;
-    let reads = both(k, t, &le)?;
-    both(k, &reads, &er)
+    let own = own_read(written, k);
+    let read = both(k, &le, &own)?;
+    both(k, t, &read)
 }
 
-/// `le | t | er`, where a loop starts.
-pub(crate) fn loop_start(
+/// The time after an assignment.
+pub(crate) fn after_set(
+    written: &Option<(Label, Label)>,
+    t: &LeftSide,
+    x: u32,
+    value: &Expr,
+    k: &Known,
+) -> Result<LeftSide, AllocError>
+    ensures { IfOk result (λ f. left_side_of f ≡ set_after k.now written.now (left_side_of t.now) x (expression_of value.now)) }
+{
+    let read = after(written, t, value, k)?;
+    let set = variable(x, k);
+    both(k, &read, &set)
+}
+
+/// The time after an assignment to an element.
+pub(crate) fn after_put(
+    written: &Option<(Label, Label)>,
+    t: &LeftSide,
+    first: u32,
+    index: &Expr,
+    value: &Expr,
+    k: &Known,
+) -> Result<LeftSide, AllocError>
+    ensures { IfOk result (λ f. left_side_of f ≡ put_after k.now written.now (left_side_of t.now) first (expression_of index.now) (expression_of value.now)) }
+{
+    let set = after_set(written, t, first, value, k)?;
+    let place = label(index, k)?;
+    both(k, &set, &place)
+}
+
+/// The guards, the read label that a command writes, and the time before it.
+fn around(
     written: &Option<(Label, Label)>,
     pc: &LeftSide,
     t: &LeftSide,
-    e: &Expr,
     k: &Known,
 ) -> Result<LeftSide, AllocError>
-    ensures { IfOk result (λ f. left_side_of f ≡ loop_of k.now written.now (left_side_of pc.now) (left_side_of t.now) (expression_of e.now)) }
+    ensures { IfOk result (λ f. left_side_of f ≡ around_of k.now written.now (left_side_of pc.now) (left_side_of t.now)) }
 {
-    let li = index_label(e, k)?;
-    let here = both(k, pc, &li)?;
-    let er = own(written, here);
-    let le = label(e, k)?;
-    let reads = both(k, &le, t)?;
-    both(k, &reads, &er)
-}
-
-/// `le | li | pc | t | er`.
-fn demand(
-    written: &Option<(Label, Label)>,
-    pc: &LeftSide,
-    t: &LeftSide,
-    le: &LeftSide,
-    li: &LeftSide,
-    k: &Known,
-) -> Result<LeftSide, AllocError>
-    ensures { IfOk result (λ f. left_side_of f ≡ both (lat_of k.now)
-        (both (lat_of k.now) (both (lat_of k.now) (both (lat_of k.now) (left_side_of le.now) (left_side_of li.now)) (left_side_of pc.now)) (left_side_of t.now))
-        (own_of written.now (both (lat_of k.now) (left_side_of pc.now) (left_side_of li.now)))) }
-{
-    let here = both(k, pc, li)?;
-    let er = own(written, here);
-    let value = both(k, le, li)?;
-    let context = both(k, &value, pc)?;
-    let time = both(k, &context, t)?;
-    both(k, &time, &er)
+    let own = own_read(written, k);
+    let time = both(k, &own, t)?;
+    both(k, pc, &time)
 }
 
 /// The left side of an assignment's first condition.
-pub(crate) fn assigned(
+pub(crate) fn set_left(
     written: &Option<(Label, Label)>,
     pc: &LeftSide,
     t: &LeftSide,
     value: &Expr,
     k: &Known,
 ) -> Result<LeftSide, AllocError>
-    ensures { IfOk result (λ f. left_side_of f ≡ assign_of k.now written.now (left_side_of pc.now) (left_side_of t.now) (expression_of value.now)) }
+    ensures { IfOk result (λ f. left_side_of f ≡ set_left k.now written.now (left_side_of pc.now) (left_side_of t.now) (expression_of value.now)) }
 {
     let le = label(value, k)?;
-    let li = index_label(value, k)?;
-    demand(written, pc, t, &le, &li, k)
+    let rest = around(written, pc, t, k)?;
+    both(k, &le, &rest)
 }
 
-/// The same of an assignment to an element.
-pub(crate) fn put(
+/// The same of an assignment to an element: all of the index counts.
+pub(crate) fn put_left(
     written: &Option<(Label, Label)>,
     pc: &LeftSide,
     t: &LeftSide,
@@ -204,17 +177,12 @@ pub(crate) fn put(
     value: &Expr,
     k: &Known,
 ) -> Result<LeftSide, AllocError>
-    ensures { IfOk result (λ f. left_side_of f ≡ put_of k.now written.now (left_side_of pc.now) (left_side_of t.now) (expression_of index.now)
+    ensures { IfOk result (λ f. left_side_of f ≡ put_left k.now written.now (left_side_of pc.now) (left_side_of t.now) (expression_of index.now)
         (expression_of value.now)) }
 {
     let le = label(value, k)?;
-    let li = put_label(index, value, k)?;
-    demand(written, pc, t, &le, &li, k)
-}
-
-/// The end label of an assignment with this left side.
-pub(crate) fn next(x: u32, have: &LeftSide, k: &Known) -> Result<LeftSide, AllocError>
-    ensures { IfOk result (λ f. left_side_of f ≡ next_of k.now x (left_side_of have.now)) }
-{
-    both(k, &variable(x, k), have)
+    let indices = label(index, k)?;
+    let rest = around(written, pc, t, k)?;
+    let indexed = both(k, &indices, &rest)?;
+    both(k, &le, &indexed)
 }
