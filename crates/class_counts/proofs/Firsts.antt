@@ -137,6 +137,7 @@ module _ {V : Type 0} (eq : V → V → Bool) (same : (x : V) → eq x x ≡ tru
           there_of : (x : V) → Among x (keys es) ⊎ (x ≡ z) → Among x (xs ++ z ∷ [])
           there_of x (inl m) = among_front x xs (z ∷ []) (h.there x m)
           there_of x (inr e) = among_last x z xs e
+
           back_of : (x : V) → Among x xs ⊎ (x ≡ z) → Among x (keys es ++ z ∷ [])
           back_of x (inl m) = among_front x (keys es) (z ∷ []) (h.back x m)
           back_of x (inr e) = among_last x z (keys es) e
@@ -149,10 +150,13 @@ module _ {V : Type 0} (eq : V → V → Bool) (same : (x : V) → eq x x ≡ tru
     where
       late : V → ℕ
       late x = n + (place x (xs ++ z ∷ []) + 1)
+
       soon : V → ℕ
       soon x = n + (place x xs + 1)
+
       as_before : map late (keys es) ≡ map soon (keys es)
       as_before = map_alike late soon (keys es) (λ x m. ap (λ p. n + (p + 1)) (place_front x xs (z ∷ []) (h.there x m)))
+
       go : Old es (add eq es z w) z ⊎ New es (add eq es z w) z
           → firsts_in n (xs ++ z ∷ []) (add eq es z w)
           ≡ cond (nat_lt (length es) (length (add eq es z w))) (firsts_in n xs es ++ (n + (length xs + 1)) ∷ []) (firsts_in n xs es)

@@ -67,4 +67,3 @@ module _ (lat : Lattice) (free : ℕ → Bool) (written : ℕ → ℕ) where
   guarded (Mitigate w k l e c p) pc t =
       let start = after_form t (own_form w.labels (here_form pc e)) e in
       guarded c pc start ++ (level_constraint l k (guarded_end c pc start) ++ guarded p pc start)
-

@@ -92,7 +92,7 @@ module _ (s : Syntax) (valid : IsValid s) where
       let met = subst (λ z. Meets lat (is_omitted ds) (conditions lat g z b b)) tree m in
       let holds = kept_hold lat ds (conditions lat g (fill lat g lv (plan_of s) b) b b) met in
       let fv = fixed_value lat ll nv g b in
-      let is = ap (seen lat ll nv g lv ds w (small_of ds) keeps) as_guarded 
+      let is = ap (seen lat ll nv g lv ds w (small_of ds) keeps) as_guarded
       ∙ constraints_seen lat ll nv g lv ds w (small_of ds) keeps (plan_of s) (fixed b) (fixed b) b b fv fv in
       hold_seen lat ll nv g lv ds w (small_of ds) keeps (constraints_of s) (subst (λ z. Hold lat z) (sym is) holds)
 
@@ -105,7 +105,7 @@ module _ (s : Syntax) (valid : IsValid s) where
       let keeps = keeps_of s l.variables (record { fit = h.keeps.variables_fit; below = h.keeps.variables_below; kept = h.keeps.declared }) in
       let tree = fills lat g lv (marks_of s.order l) (plan_of s) 0 b h.own in
       let fv = fixed_value lat ll nv g b in
-      let is = ap (seen lat ll nv g lv ds w (small_of ds) keeps) as_guarded 
+      let is = ap (seen lat ll nv g lv ds w (small_of ds) keeps) as_guarded
       ∙ constraints_seen lat ll nv g lv ds w (small_of ds) keeps (plan_of s) (fixed b) (fixed b) b b fv fv in
       let holds = subst (λ z. Hold lat z) is (seen_hold lat ll nv g lv ds w (small_of ds) keeps (constraints_of s) m) in
       let met = hold_meet lat ds (conditions lat g (fill lat g lv (plan_of s) b) b b) holds in

@@ -41,7 +41,7 @@ one_more n m ps z w at =
     let F : List (List Event) → List (List Event × ℕ) → List ℕ = firsts_in same_sequence same_itself tests_sequences.same_to n in
     let seen : tally same_sequence [] (ps ++ (z, w) ∷ []) ≡ add same_sequence es z w = tally_end same_sequence [] ps z w in
     let firsts : F (keys (ps ++ (z, w) ∷ [])) (tally same_sequence [] (ps ++ (z, w) ∷ []))
-        ≡ cond (nat_lt (length es) (length (add same_sequence es z w))) (F xs es ++ (m + 1) ∷ []) (F xs es) =
+    ≡ cond (nat_lt (length es) (length (add same_sequence es z w))) (F xs es ++ (m + 1) ∷ []) (F xs es) =
     ap (λ r. F r (tally same_sequence [] (ps ++ (z, w) ∷ []))) (keys_more ps z w)
     ∙ (ap (λ r. F (xs ++ z ∷ []) r) seen ∙ (here
     ∙ ap (λ r. cond (nat_lt (length es) (length (add same_sequence es z w))) (F xs es ++ r ∷ []) (F xs es)) number)) in
@@ -128,7 +128,7 @@ module _ (seen : ℕ → List Event) (end : ℕ → RunEnd) (weight : ℕ → �
       let events : events_in (with_start (classes_at seen end weight n d) (n + d) (seen (n + d)) (weight (n + d))).seen ≤ 16777216 =
       subst (λ (k : Classes). events_in k.seen ≤ 16777216) (sym (next_at n d)) most in
       let none = none_refused (end (n + d)) (n + d)
-          (events_in (with_start (classes_at seen end weight n d) (n + d) (seen (n + d)) (weight (n + d))).seen) last.0 last.1 events in
+      (events_in (with_start (classes_at seen end weight n d) (n + d) (seen (n + d)) (weight (n + d))).seen) last.0 last.1 events in
       ap (walk no_classes n) f ∙ kept_walk n d (suc c) before
       ∙ ap (λ z. unless z (walk (with_start (classes_at seen end weight n d) (n + d) (seen (n + d)) (weight (n + d))) (n + d + 1) c)) none
       ∙ ap (λ k. walk k (n + d + 1) c) (next_at n d) ∙ ap (λ m. walk (classes_at seen end weight n (suc d)) m c) g
@@ -139,7 +139,7 @@ module _ (seen : ℕ → List Event) (end : ℕ → RunEnd) (weight : ℕ → �
   refused_walk n d c f l h r =
       let is : c ≡ d + suc (c - (d + 1)) = omega (arith, l) in
       let here : refusal (end (n + d)) (n + d)
-          (events_in (with_start (classes_at seen end weight n d) (n + d) (seen (n + d)) (weight (n + d))).seen) ≡ Some f =
+      (events_in (with_start (classes_at seen end weight n d) (n + d) (seen (n + d)) (weight (n + d))).seen) ≡ Some f =
       ap (λ (k : Classes). refusal (end (n + d)) (n + d) (events_in k.seen)) (next_at n d) ∙ r in
       ap (walk no_classes n) is ∙ kept_walk n d (suc (c - (d + 1))) h
       ∙ ap (λ z. unless z (walk (with_start (classes_at seen end weight n d) (n + d) (seen (n + d)) (weight (n + d))) (n + d + 1) (c - (d + 1)))) here
@@ -188,9 +188,17 @@ module _ (seen : ℕ → List Event) (end : ℕ → RunEnd) (weight : ℕ → �
           by_events : (cycle : ℕ) → end (n + c) ≡ Halted cycle
               → (16777216 < events_in (classes_at seen end weight n (suc c)).seen) ⊎ (events_in (classes_at seen end weight n (suc c)).seen ≤ 16777216)
               → Decided n (suc c)
-          by_events cycle e (inl many) = inr (TooMuch (events_in (classes_at seen end weight n (suc c)).seen), record {
-            before = c; there = omega arith; kept = h; halted = (cycle, e); events = sym (suc_at n c); many = many;
-          })
+          by_events cycle e (inl many) = inr (
+            TooMuch (events_in (classes_at seen end weight n (suc c)).seen),
+            record {
+              before = c;
+              there = omega arith;
+              kept = h;
+              halted = (cycle, e);
+              events = sym (suc_at n c);
+              many = many;
+            },
+          )
           by_events cycle e (inr few) = inl (record {
             halted = λ i l. ⊎_elim (λ (lt : i < c). h.halted i lt)
                 (λ (le : c ≤ i). let same : c ≡ i = omega (arith, l, le) in subst (λ m. (y : ℕ) × (end (n + m) ≡ Halted y)) same (cycle, e)) (cases_lt i c);
@@ -198,6 +206,7 @@ module _ (seen : ℕ → List Event) (end : ℕ → RunEnd) (weight : ℕ → �
                 (λ (le : suc c ≤ i). let same : suc c ≡ i = omega (arith, l, le) in
                 subst (λ m. events_in (classes_at seen end weight n m).seen ≤ 16777216) same few) (cases_lt i (suc c));
           })
+
           by_end : (r : RunEnd) → end (n + c) ≡ r → Decided n (suc c)
           by_end (Halted cycle) e = by_events cycle e (cases_lt 16777216 (events_in (classes_at seen end weight n (suc c)).seen))
           by_end (Limit cycle) e = inr (Unfinished (n + c + 1) cycle, record { before = c; there = omega arith; kept = h; cut = e; number_is = refl })

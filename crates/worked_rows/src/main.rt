@@ -71,7 +71,10 @@ impl Tally {
 // Runs the rows of a table.
 fn run_table(rt: &(impl Print + Files), alloc: Global, name: &str) -> Result<()> {
     let mut bytes = Vec::new(alloc);
-    if FileShelf::new(alloc, rt).fetch(alloc, name, &mut bytes).is_err() {
+    if FileShelf::new(alloc, rt)
+        .fetch(alloc, name, &mut bytes)
+        .is_err()
+    {
         bail!("the table {name} could not be read");
     }
     let table = std::str::from_utf8(bytes.as_slice()).context("the table is no text")?;
