@@ -1,5 +1,5 @@
 # Completion of mitigate's words for bash: source this file, or put it into /etc/bash_completion.d.
-# tools/commands makes it of docs/data/commands.toml.
+# tools/gate/commands makes it of docs/data/commands.toml.
 
 # The options of a command.
 _mitigate_options() {

@@ -1,0 +1,100 @@
+"""The commands of mitigate and the questions of lab, as docs/data/commands.toml has them, for the scripts beside this one."""
+import dataclasses
+import functools
+import pathlib
+import re
+import tomllib
+
+TOP = pathlib.Path(__file__).resolve().parent.parent.parent
+TABLE = TOP / "docs/data/commands.toml"
+PROGRAMS = ("mitigate", "lab")
+PART = re.compile(r"(?P<open>\[?)(?:--(?P<option>[a-z]+)(?: (?P<value>[A-Z]+))?|(?P<word>[A-Z]+))(?P<close>\]?)")
+
+
+@dataclasses.dataclass
+class Part:
+    """A part of a form: a word, or an option with its value, which is empty where it takes none."""
+
+    word: str
+    option: str
+    value: str
+    needed: bool
+
+
+@dataclasses.dataclass
+class Command:
+    """A command with its row in the table."""
+
+    program: str
+    name: str
+    form: str
+    ends: list
+    says: str
+    tells: str
+    without: dict = dataclasses.field(default_factory=dict)
+
+    def parts(self):
+        """The parts of the form, in its order."""
+        found = list(PART.finditer(self.form))
+        if " ".join(part[0] for part in found) != self.form or any(bool(part["open"]) != bool(part["close"]) for part in found):
+            raise ValueError(f"{TABLE.name}: {self.name}: no form: {self.form}")
+        return [Part(part["word"] or "", part["option"] or "", part["value"] or "", not part["open"]) for part in found]
+
+    def words(self):
+        return [part for part in self.parts() if part.word]
+
+    def options(self):
+        return [part for part in self.parts() if part.option]
+
+
+@functools.cache
+def table():
+    return tomllib.loads(TABLE.read_text(encoding="utf-8"))
+
+
+@functools.cache
+def commands(program=None):
+    """The commands of a program, or of both, in the order of the usage texts."""
+    found = [Command(**row) for row in table()["command"]]
+    return [command for command in found if program in (None, command.program)]
+
+
+def choices(option):
+    """The names that an option's value is one of; none where it is no choice."""
+    return [choice["name"] for choice in table()["option"][option].get("choice", [])]
+
+
+def usage(program):
+    """The usage text of a program, without the line feed at its end."""
+    return "usage: " + "\n       ".join(form_of(command) for command in commands(program))
+
+
+def form_of(command):
+    """A command's form as usage texts have it, with its program and its name."""
+
+    def told(part):
+        option = table()["option"][part["option"]] if part["option"] else {}
+        value = "|".join(choices(part["option"])) if option.get("choice") else option.get("in_usage", part["value"])
+        return part[0] if not part["value"] else f"{part['open']}--{part['option']} {value}{part['close']}"
+
+    return f"{command.program} {command.name} {PART.sub(told, command.form)}".rstrip()
+
+
+def line_of(command, part):
+    """What `lab help` tells of a word or an option."""
+    option = table()["option"].get(part.option, {})
+    if part.word:
+        return f"  {part.word:<11} {table()['word'][part.word]['is']}"
+    told = f"{option['is']}: {option['says']}" if part.value else option["says"]
+    without = command.without.get(part.option, option.get("default"))
+    return f"  --{part.option:<9} {told}" + (f"; {without} where it is left out" if without is not None else "")
+
+
+def help_text(name=""):
+    """What `lab help`, or `lab help NAME`, writes."""
+    if not name:
+        return "".join(f"lab {command.name:<9} {command.says}\n" for command in commands("lab"))
+    command = next(command for command in commands("lab") if command.name == name)
+    return "".join(
+        line + "\n" for line in [f"usage: {form_of(command)}", command.says, *(line_of(command, part) for part in command.parts())]
+    )
