@@ -13,6 +13,7 @@ import { drawLesson, isCovered } from './lesson_part.js';
 import { banksNow, drawMachine, noteMachineFault } from './machine_part.js';
 import { drawProgram } from './program_part.js';
 import { followRuns, progressText } from './progress.js';
+import { wantsCode } from './reading_part.js';
 import { drawStarts } from './starts_part.js';
 import { $, answeredOf, calls, faults, shown, state } from './state.js';
 import { drawSteady } from './steady_part.js';
@@ -83,7 +84,7 @@ export async function ask() {
     drawSteady();
     drawStarts();
     drawCommands();
-    if (!$('code-part').hidden) await askCode(asked, isOld);
+    if (wantsCode()) await askCode(asked, isOld);
     if (isOld()) return;
     drawMachine();
     if (isAccepted && !faults.budget && !faults.cell && !faults.machine) await askRuns(asked, isOld);
