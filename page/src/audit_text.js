@@ -1,6 +1,7 @@
 // The numbers of an audit with what they mean, as HTML.
 
 import { bitsOf } from './answers.js';
+import { bitsText } from './leak_text.js';
 import { boundText, counted, powerText, spaced, wholeBound } from './numbers.js';
 import { refusalText } from './finding.js';
 import { labelText } from './marks.js';
@@ -29,8 +30,17 @@ function sharedBox({ sharp, shared }) {
 
 const NO_LIMIT = 'no limit, since all labels share the caches';
 
+// The numbers of all starts of a space: no limit is told of others.
+function spaceBoxes({ runs, distinct, least, greatest }) {
+  const sequences = term('timed sequence', distinct === 1 ? 'sequence' : 'sequences');
+  const of = runs === 1 ? 'this start' : `${spaced(runs)} starts`;
+  return numberBox(spaced(distinct), `different ${sequences} seen of ${of}`)
+    + numberBox(spaced(greatest), `look alike in the largest ${term('class')}, and ${spaced(least)} in the smallest`);
+}
+
 /** The numbers: what is seen, and the limits. */
-export function auditBoxes({ report, sharp }) {
+export function auditBoxes({ report, sharp, space }) {
+  if (space) return spaceBoxes(space);
   const runs = report.runs === 1 ? 'this run' : `these ${spaced(report.runs)} runs`;
   const sequences = term('timed sequence', report.distinct === 1 ? 'sequence' : 'sequences');
   const seen = numberBox(spaced(report.distinct), `different ${sequences} seen in ${runs}`);
@@ -80,9 +90,17 @@ function endText(countsEnd) {
     : ' When it ends is not counted, and may tell more.';
 }
 
+function spaceWords({ runs, observer, budget, shannon }, labels) {
+  return `For an observer at ${labelText(observer, labels)} up to cycle ${spaced(budget)}, of all`
+    + ` ${counted(runs, 'start')} of the space, one as likely as the other: exactly. On the average a run tells`
+    + ` ${bitsText(shannon)} bits of its start (${term('Shannon entropy')}). Bound and sharp count, which limit what`
+    + ' other starts tell, are told of a list of runs.';
+}
+
 /** The numbers in words, or why there are none. */
 export function auditWords(audit, labels, asked) {
   if (audit.refusal) return refusalText(audit.refusal, labels, asked.observer);
+  if (audit.space) return spaceWords(audit.space, labels);
   const { report, isCut, sharp } = audit, observer = labelText(report.observer, labels);
   const times = (guess) => `${boundText(guess)} ${guess === 1n ? 'time' : 'times'}`;
   const guess = sharp?.guess === undefined

@@ -77,7 +77,7 @@ const keepsLabels = (given, labels) => [...given].every(([name, label]) => label
     is not an answer to what is there, by `fresh`, is not known. */
 export function factsOf({ state, shown, fresh, given }) {
   const isKnown = fresh('verdict'), audit = fresh('audit') ? shown.audit : null,
-    runs = fresh('runs') ? shown.runs : null;
+    runs = fresh('runs') && !shown.listed ? shown.runs : null;
   const report = audit?.report && !audit.isCut ? audit.report : null;
   const haveAllEnded = runs !== null && shown.isAll && runs.every((run) => run.halted);
   const ends = haveAllEnded ? runs.map((run) => run.end) : null;

@@ -23,7 +23,8 @@ export const lacksCode = () => !isFresh('code', answeredOf.code, state);
 let known = { run: null, code: null, told: null };
 
 function told(number) {
-  const { code } = shown, run = shown.runs[number], start = starts().runs?.[number], program = programNow();
+  const { code } = shown, run = shown.runs[number], program = programNow();
+  const start = (shown.listed ?? starts()).runs?.[number];
   if (!code || !start || !program || lacksCode()) return {};
   const about = { code, program, start, budget: Number(state.budget) };
   try {
