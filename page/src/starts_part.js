@@ -24,7 +24,7 @@ export function drawStarts() {
     ? shown.audit.refusal.text : '';
   const fault = read.fault ? `${isText ? '' : 'The table cannot show these starts. '}${read.fault}` : refusal;
   $('starts-fault').textContent = faults.cell || fault;
-  const note = shown.runs ? `rows of one ${term('class')} look alike, and share colour and shape` : '';
+  const note = shown.runs && !space ? `rows of one ${term('class')} look alike, and share colour and shape` : '';
   if ($('starts-note').innerHTML !== note) $('starts-note').innerHTML = note;
   $('starts-undo').disabled = before.length === 0;
   box.hidden = isText || Boolean(read.fault);
