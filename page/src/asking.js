@@ -223,7 +223,8 @@ async function askLeak(asked, isOld) {
 async function askBoth(asked, isOld) {
   const banks = banksNow(), { audit } = shown;
   step = stepOf('both machines');
-  const compared = banks !== null && audit?.report && !audit.isCut ? await comparedOf(calls.tool, asked, banks) : null;
+  const isCounted = (audit?.report && !audit.isCut) || audit?.space;
+  const compared = banks !== null && isCounted ? await comparedOf(calls.tool, asked, banks) : null;
   if (isOld()) return;
   shown.compared = compared;
   answeredOf.compared = asked;

@@ -28,6 +28,14 @@ function sharedBox({ sharp, shared }) {
   return numberBox(boundText(shared), `at most, by ${limitName('shared time')} ${bits}`, wholeBound(shared));
 }
 
+// The count by own first predictions, where that is less than the others.
+function ownBox({ sharp, shared, own }) {
+  const isLeast = own !== undefined && [sharp, shared].every((other) => other === undefined || own < other);
+  if (!isLeast) return '';
+  const bits = counted(bitsOf(own, 1), 'bit');
+  return numberBox(boundText(own), `at most, by ${limitName('own first predictions')} ${bits}`, wholeBound(own));
+}
+
 const NO_LIMIT = 'no limit, since all labels share the caches';
 
 // The numbers of all starts of a space: no limit is told of others.
@@ -49,8 +57,10 @@ export function auditBoxes({ report, sharp, space }) {
     : numberBox(boundText(sharp.sharp), `at most, by the ${limitName('sharp count')} ${counted(sharp.bits, 'bit')}`,
     wholeBound(sharp.sharp));
   const last = report.sharing === 'shared' ? numberBox('none', NO_LIMIT) : boundBox(report);
-  return seen + limit + sharedBox(sharp ?? {}) + last;
+  return seen + limit + sharedBox(sharp ?? {}) + ownBox(sharp ?? {}) + last;
 }
+
+const OWN = ', and that by own first predictions where none has one below the least at its place in these runs';
 
 // The starts for which the numbers hold.
 function holdsFor(report, isCut, sharp, observer) {
@@ -63,7 +73,7 @@ function holdsFor(report, isCut, sharp, observer) {
   if (sharp?.sharp === undefined) return ` The bound holds ${agree}, and halt by then.`;
   const [all, counts] = sharedBox(sharp) === '' ? ['Both', 'the sharp count,'] : ['All', 'both counts'];
   return ` ${all} limits hold ${agree}, and halt by then; ${counts} where besides no relevant mitigation of theirs`
-    + ` has a first prediction below the least of its ${term('level')} here.`;
+    + ` has a first prediction below the least of its ${term('level')} here${ownBox(sharp) === '' ? '' : OWN}.`;
 }
 
 const relevantWord = (count) => `${term('relevant')} ${count === 1 ? 'mitigation' : 'mitigations'}`;

@@ -7,9 +7,11 @@ import { isSteady } from './steady_text.js';
 
 const capital = (text) => text[0].toUpperCase() + text.slice(1);
 
-// The least of the limits: the count by shared time, the sharp count, or where there is none the bound.
+// The least of the limits: of the counts that are told, or where there is none the bound.
 function limitOf(report, sharp) {
-  return sharp?.shared ?? sharp?.sharp ?? BigInt(report.base) ** BigInt(report.exponent);
+  const told = [sharp?.sharp, sharp?.shared, sharp?.own].filter((count) => count !== undefined);
+  if (told.length === 0) return BigInt(report.base) ** BigInt(report.exponent);
+  return told.reduce((least, count) => (count < least ? count : least));
 }
 
 const NO_LIMIT = 'no limit holds, since all labels share the caches';
