@@ -57,7 +57,7 @@ export function auditBoxes({ report, sharp, space }) {
     : numberBox(boundText(sharp.sharp), `at most, by the ${limitName('sharp count')} ${counted(sharp.bits, 'bit')}`,
     wholeBound(sharp.sharp));
   const last = report.sharing === 'shared' ? numberBox('none', NO_LIMIT) : boundBox(report);
-  return seen + limit + sharedBox(sharp ?? {}) + ownBox(sharp ?? {}) + last;
+  return seen + limit + (ownBox(sharp ?? {}) || sharedBox(sharp ?? {})) + last; // of the other counts the lesser one
 }
 
 const OWN = ', and that by own first predictions where none has one below the least at its place in these runs';

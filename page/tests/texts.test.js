@@ -121,7 +121,7 @@ test('the numbers, and what they are', () => {
   assert.doesNotMatch(auditBoxes({ report, sharp: { ...sharp, shared: 16n } }), /shared time/);
   // own first predictions, where no other count is as small
   assert.match(plain(auditBoxes({ report, sharp: { ...login, own: 900n } })),
-    /by shared time: 25 bits900at most, by own first predictions: 10 bits2\^20at most/);
+    /by the sharp count: 29 bits900at most, by own first predictions: 10 bits2\^20at most/);
   assert.match(found({ report, sharp: { ...login, own: 41n } }), /; at most 41 are possible\.$/);
   assert.doesNotMatch(auditBoxes({ report, sharp: { ...sharp, shared: 15n, own: 15n } }), /own first/);
   assert.match(plain(auditWords({ report, sharp: { ...login, own: 900n } }, labels, { observer: 'L' })),
