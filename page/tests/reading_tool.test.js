@@ -74,3 +74,17 @@ test('random programs, whole and cut', { skip }, () => {
   }
   assert.ok(count > 150, `${count} runs`);
 });
+
+test('the misses that the lesson of the caches speaks of', { skip }, () => {
+  const program = read('sbox/seen.mit'), starts = read('sbox/starts.toml');
+  const { text } = call('mitigate', ['compile', 'p'], { p: program });
+  const readings = readStarts(starts).runs.map((start) => readRunBy({
+    code: readCode(text), program: readProgram(program), hardware: hardwareOf(read('machines/part.toml')), start,
+    budget: 1000000,
+  }));
+  const missed = (place) =>
+    readings.map(({ costs }) => costs.reduce((all, cost) => all + (cost.missed[place] ?? 0), 0));
+  const [data, page] = [missed('data'), missed('page')];
+  assert.deepEqual(data.map((count) => count - data[0]), [0, 0, 1, 1]);
+  assert.deepEqual(page.map((count) => count - page[0]), [0, 0, 0, 1]);
+});

@@ -288,6 +288,8 @@ def each_instruction(page):
     text = page.text("#step-says").replace("\u202f", "")
     holds(text.startswith(f"Run 1, instruction {count} of {count}, cycle {end}: ") and "HALT" in text, f"{text}: {end}")
     holds(page.run("return document.getElementById('step-on').disabled"), "nothing is behind the end")
+    page.write_now(page.program() + " ")
+    all_dimmed(page, "#step-state", "what is held in an earlier program")
     page.set("#environment", "flat", "change")
     page.idle()
     page.run("document.getElementById('step-on').click()")
