@@ -9,8 +9,8 @@ import { heldTable, instructionText, linesOfCode } from './reading_text.js';
 import { $, shown, state } from './state.js';
 import { stepsOf, stepText } from './steps.js';
 
-const READ = 'Instructions and what is held are the page’s own reading of the run, which has each assignment,'
-  + ' mitigation and end that the tool tells.';
+const READ = 'Of each set, by its number, the latest touched stands first. Instructions and what is held are the page’s'
+  + ' own reading of the run, which has each assignment, mitigation and end that the tool tells.';
 
 // The step, from 0, the run that it is of, and its steps: what the tool tells, or, where all instructions are gone
 // through, the reading's.
