@@ -15,7 +15,7 @@ export function readRefusal(line) {
   }
   const syntax = /^syntax: (.*?)(?: at (\d+:\d+))?$/.exec(line);
   if (syntax) return { kind: 'syntax', what: syntax[1], place: syntax[2] ? place(syntax[2]) : null, text: line };
-  const named = /^(starts|disagree|unfinished|too long|read fault|memory|usage|machine)/.exec(line);
+  const named = /^(starts|space|disagree|unfinished|too long|read fault|memory|usage|machine)/.exec(line);
   return { kind: named ? named[1] : 'other', place: null, text: line };
 }
 
@@ -143,9 +143,13 @@ export function readFault(text) {
 const FIELD = /^(\S+)=(-?\d+)@(\d+)$/;
 const numbers = (match) => match.slice(1).map(Number);
 
+// A number, as a BigInt where it is too great for another one.
+const wideNumber = (text) => (Number.isSafeInteger(Number(text)) ? Number(text) : BigInt(text));
+
 // One line of the lab's `leak`, put into what was found; whether it is one.
 function leakLine(line, found) {
-  const count = /^(runs|budget|distinct) (\d+)$/.exec(line), wide = /^(sharp|shared|own) (\d+)$/.exec(line);
+  const count = /^(runs|budget|distinct) (\d+)$/.exec(line), starts = /^starts (\d+)$/.exec(line);
+  const wide = /^(sharp|shared|own) (\d+)$/.exec(line);
   const bound = /^bound (\d+)\^(\d+)$/.exec(line), sizes = /^least (\d+) greatest (\d+)$/.exec(line);
   const bits = /^(min-entropy|shannon) (\d+\.\d+) to (\d+\.\d+)$/.exec(line);
   const right = /^right at first (\d+) of (\d+) before, (\d+) of (\d+) after$/.exec(line);
@@ -153,6 +157,7 @@ function leakLine(line, found) {
   const part = /^class (\d+) first (\d+)\t(.*)$/.exec(line), observer = /^observer (\S+)$/.exec(line);
   const machine = /^machine (partitioned|shared)$/.exec(line);
   if (count) found[count[1]] = Number(count[2]);
+  else if (starts) Object.assign(found, { runs: Number(starts[1]), isSpace: true });
   else if (observer) [, found.observer] = observer;
   else if (bound) [found.base, found.exponent] = numbers(bound);
   else if (wide) found[wide[1]] = BigInt(wide[2]);
@@ -160,7 +165,7 @@ function leakLine(line, found) {
   else if (bits) found[bits[1] === 'shannon' ? 'shannon' : 'minEntropy'] = bits.slice(2);
   else if (right) found.right = { before: Number(right[1]), after: Number(right[3]) };
   else if (guesses) {
-    const [before, ofBefore, after, ofAfter] = numbers(guesses);
+    const [before, ofBefore, after, ofAfter] = guesses.slice(1).map(wideNumber);
     found.guesses = { before: [before, ofBefore], after: [after, ofAfter] };
   } else if (part) {
     const events = part[3] === '-' ? [] : part[3].split(' ').map((text) => event(FIELD.exec(text)));
@@ -170,9 +175,9 @@ function leakLine(line, found) {
   return true;
 }
 
-/** The lab's `leak`: its numbers, and of each class of runs its size, its first run and what is seen of that; or null.
-    Entropies stay texts, each as two ends between which it lies; `sharp`, `shared` and `own` are left out
-    where they are too great. */
+/** The lab's `leak`, of listed runs or, as `isSpace`, of all starts of a space: its numbers, and of each class of runs
+    its size, its first run and what is seen of that; or null. Entropies stay texts, each as two ends between which it
+    lies; `sharp`, `shared` and `own` are left out where they are too great. */
 export function readLeak(text) {
   const found = { classes: [] };
   if (!lines(text).every((line) => leakLine(line, found))) return null;

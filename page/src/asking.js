@@ -9,16 +9,20 @@ import { labelsOf, writtenLabels } from './decorations.js';
 import { isFresh } from './freshness.js';
 import { announce, drawFreshness, setProgress } from './freshness_part.js';
 import { drawLeak } from './leak_part.js';
+import { readProgram } from './language.js';
 import { drawLesson, isCovered } from './lesson_part.js';
 import { banksNow, drawMachine, noteMachineFault } from './machine_part.js';
 import { drawProgram } from './program_part.js';
 import { followRuns, progressText } from './progress.js';
+import { wantsCode } from './reading_part.js';
+import { isSpace, listed, readSpace } from './space.js';
+import { readStarts } from './starts.js';
 import { drawStarts } from './starts_part.js';
 import { $, answeredOf, calls, faults, shown, state } from './state.js';
 import { drawSteady } from './steady_part.js';
 import {
   auditOf, chainOf, codeOf, comparedOf, completedBy, faultOf, leakOf, machineFaultOf, mendOf, refusedRunsOf, runsOf,
-  sharpOf, steadyOf, verdictOf,
+  sharpOf, spaceOf, steadyOf, verdictOf,
 } from './study.js';
 import { canSweep, drawSweep, stopSweep, sweep } from './sweep_part.js';
 import { drawTime } from './time_part.js';
@@ -29,6 +33,7 @@ import { keepWork } from './work.js';
 const PAUSE = 250; // milliseconds of rest before a change is answered
 const QUICK_SWEEP = 4000; // milliseconds that a sweep may take to begin by itself
 const QUICK_BOTH = 3000; // milliseconds that runs may take to be made on both machines by themselves
+const MOST_FIRSTS = 100; // classes of a space whose first starts are drawn
 const SWEEP_CALLS = 90; // how often as long as the runs a sweep takes, about
 const SHOWN_AFTER = 400, FOLLOWED_AFTER = 1000; // milliseconds until work is told, and until its runs are followed
 
@@ -83,7 +88,7 @@ export async function ask() {
     drawSteady();
     drawStarts();
     drawCommands();
-    if (!$('code-part').hidden) await askCode(asked, isOld);
+    if (wantsCode()) await askCode(asked, isOld);
     if (isOld()) return;
     drawMachine();
     if (isAccepted && !faults.budget && !faults.cell && !faults.machine) await askRuns(asked, isOld);
@@ -133,6 +138,10 @@ async function askCode(asked, isOld) {
 async function askRuns(asked, isOld) {
   const { tool } = calls;
   drawFreshness();
+  if (isSpace(asked.starts)) {
+    await askSpace(asked, isOld);
+    return;
+  }
   step = stepOf('the count');
   const audit = await auditOf(tool, asked);
   if (isOld()) return;
@@ -167,8 +176,31 @@ async function askRuns(asked, isOld) {
   if (!hasPoints && canSweep() && took * SWEEP_CALLS < QUICK_SWEEP) sweep();
 }
 
-function noteRuns({ runs, mitigates, isAll }, asked) {
-  Object.assign(shown, { runs, mitigates, isAll, view: null, page: 0, lane: -1 });
+// The runs of the first starts of the classes of a space, each of its class.
+async function firstRuns(asked, { classes }) {
+  const space = readSpace(asked.starts), variables = readProgram(asked.program)?.variables ?? [];
+  const text = listed(space, variables, classes.slice(0, MOST_FIRSTS).map(({ first }) => first));
+  const { runs = null, mitigates = null } = await runsOf(calls.tool, { ...asked, starts: text });
+  return { runs, mitigates, listed: readStarts(text), isAll: classes.length <= MOST_FIRSTS };
+}
+
+// All starts of a space are counted; of each class the first one's run is drawn.
+async function askSpace(asked, isOld) {
+  step = stepOf('what the runs tell');
+  const told = await spaceOf(calls.tool, asked);
+  if (isOld()) return;
+  Object.assign(shown, { audit: told, leak: told.space ?? null });
+  answeredOf.audit = answeredOf.leak = asked;
+  const firsts = told.space ? await firstRuns(asked, told.space) : { runs: null };
+  if (isOld()) return;
+  noteRuns({ mitigates: null, isAll: true, ...firsts }, asked);
+  setProgress('');
+  const draws = [drawAudit, drawStarts, drawTime, drawCosts, drawSweep, drawLeak, drawMachine, drawCommands];
+  for (const draw of draws) draw();
+}
+
+function noteRuns({ runs, mitigates, isAll, listed: rows = null }, asked) {
+  Object.assign(shown, { runs, mitigates, isAll, listed: rows, view: null, page: 0, lane: -1 });
   answeredOf.runs = asked;
 }
 
@@ -191,7 +223,8 @@ async function askLeak(asked, isOld) {
 async function askBoth(asked, isOld) {
   const banks = banksNow(), { audit } = shown;
   step = stepOf('both machines');
-  const compared = banks !== null && audit?.report && !audit.isCut ? await comparedOf(calls.tool, asked, banks) : null;
+  const isCounted = (audit?.report && !audit.isCut) || audit?.space;
+  const compared = banks !== null && isCounted ? await comparedOf(calls.tool, asked, banks) : null;
   if (isOld()) return;
   shown.compared = compared;
   answeredOf.compared = asked;

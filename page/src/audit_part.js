@@ -10,7 +10,7 @@ import { isOnlyRefused } from './steady_part.js';
 /** The numbers with what they mean, or why there are none. */
 export function drawAudit() {
   const { audit, labels } = shown;
-  $('audit').innerHTML = audit?.report ? auditBoxes(audit) : '';
+  $('audit').innerHTML = audit?.report || audit?.space ? auditBoxes(audit) : '';
   $('audit-text').innerHTML = audit ? auditWords(audit, labels, answeredOf.audit ?? state) : '';
   $('finding').classList.toggle('leaks', isLeaking(audit));
   drawSentence();

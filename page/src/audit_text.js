@@ -1,6 +1,7 @@
 // The numbers of an audit with what they mean, as HTML.
 
 import { bitsOf } from './answers.js';
+import { bitsText } from './leak_text.js';
 import { boundText, counted, powerText, spaced, wholeBound } from './numbers.js';
 import { refusalText } from './finding.js';
 import { labelText } from './marks.js';
@@ -27,10 +28,27 @@ function sharedBox({ sharp, shared }) {
   return numberBox(boundText(shared), `at most, by ${limitName('shared time')} ${bits}`, wholeBound(shared));
 }
 
+// The count by own first predictions, where that is less than the others.
+function ownBox({ sharp, shared, own }) {
+  const isLeast = own !== undefined && [sharp, shared].every((other) => other === undefined || own < other);
+  if (!isLeast) return '';
+  const bits = counted(bitsOf(own, 1), 'bit');
+  return numberBox(boundText(own), `at most, by ${limitName('own first predictions')} ${bits}`, wholeBound(own));
+}
+
 const NO_LIMIT = 'no limit, since all labels share the caches';
 
+// The numbers of all starts of a space: no limit is told of others.
+function spaceBoxes({ runs, distinct, least, greatest }) {
+  const sequences = term('timed sequence', distinct === 1 ? 'sequence' : 'sequences');
+  const of = runs === 1 ? 'this start' : `${spaced(runs)} starts`;
+  return numberBox(spaced(distinct), `different ${sequences} seen of ${of}`)
+    + numberBox(spaced(greatest), `look alike in the largest ${term('class')}, and ${spaced(least)} in the smallest`);
+}
+
 /** The numbers: what is seen, and the limits. */
-export function auditBoxes({ report, sharp }) {
+export function auditBoxes({ report, sharp, space }) {
+  if (space) return spaceBoxes(space);
   const runs = report.runs === 1 ? 'this run' : `these ${spaced(report.runs)} runs`;
   const sequences = term('timed sequence', report.distinct === 1 ? 'sequence' : 'sequences');
   const seen = numberBox(spaced(report.distinct), `different ${sequences} seen in ${runs}`);
@@ -39,8 +57,10 @@ export function auditBoxes({ report, sharp }) {
     : numberBox(boundText(sharp.sharp), `at most, by the ${limitName('sharp count')} ${counted(sharp.bits, 'bit')}`,
     wholeBound(sharp.sharp));
   const last = report.sharing === 'shared' ? numberBox('none', NO_LIMIT) : boundBox(report);
-  return seen + limit + sharedBox(sharp ?? {}) + last;
+  return seen + limit + (ownBox(sharp ?? {}) || sharedBox(sharp ?? {})) + last; // of the other counts the lesser one
 }
+
+const OWN = ', and that by own first predictions where none has one below the least at its place in these runs';
 
 // The starts for which the numbers hold.
 function holdsFor(report, isCut, sharp, observer) {
@@ -53,7 +73,7 @@ function holdsFor(report, isCut, sharp, observer) {
   if (sharp?.sharp === undefined) return ` The bound holds ${agree}, and halt by then.`;
   const [all, counts] = sharedBox(sharp) === '' ? ['Both', 'the sharp count,'] : ['All', 'both counts'];
   return ` ${all} limits hold ${agree}, and halt by then; ${counts} where besides no relevant mitigation of theirs`
-    + ` has a first prediction below the least of its ${term('level')} here.`;
+    + ` has a first prediction below the least of its ${term('level')} here${ownBox(sharp) === '' ? '' : OWN}.`;
 }
 
 const relevantWord = (count) => `${term('relevant')} ${count === 1 ? 'mitigation' : 'mitigations'}`;
@@ -80,9 +100,17 @@ function endText(countsEnd) {
     : ' When it ends is not counted, and may tell more.';
 }
 
+function spaceWords({ runs, observer, budget, shannon }, labels) {
+  return `For an observer at ${labelText(observer, labels)} up to cycle ${spaced(budget)}, of all`
+    + ` ${counted(runs, 'start')} of the space, one as likely as the other: exactly. On the average a run tells`
+    + ` ${bitsText(shannon)} bits of its start (${term('Shannon entropy')}). Bound and sharp count, which limit what`
+    + ' other starts tell, are told of a list of runs.';
+}
+
 /** The numbers in words, or why there are none. */
 export function auditWords(audit, labels, asked) {
   if (audit.refusal) return refusalText(audit.refusal, labels, asked.observer);
+  if (audit.space) return spaceWords(audit.space, labels);
   const { report, isCut, sharp } = audit, observer = labelText(report.observer, labels);
   const times = (guess) => `${boundText(guess)} ${guess === 1n ? 'time' : 'times'}`;
   const guess = sharp?.guess === undefined

@@ -3,6 +3,7 @@
 import { escaped } from './colours.js';
 import { lineFinder, owners, readProgram } from './language.js';
 import { labelText } from './marks.js';
+import { paidText } from './reading_text.js';
 import { theEditor } from './program_part.js';
 import { $, answeredOf, shown } from './state.js';
 
@@ -18,7 +19,7 @@ export function codeText(code, text, labels) {
     const words = `<span class="op">${instruction.name}</span> ${escaped(instruction.operand)}`;
     return `<span class="line"`
       + ` data-line="${line}"><span class="n">${instruction.number}</span>`
-      + `<span class="to">${words}</span>[${marks}]</span>`;
+      + `<span class="to">${words}</span>[${marks}]<span class="paid"></span></span>`;
   });
   return rows.join('');
 }
@@ -31,6 +32,28 @@ export function drawCode(text) {
   light(theEditor().caretLine, false);
 }
 
+/** Writes what each instruction cost in a run beside it, or nothing where that is null. */
+export function drawPaid(costs) {
+  $('code').querySelectorAll('.paid').forEach((place, k) => {
+    const text = costs?.[k] ? paidText(costs[k]) : '';
+    if (place.textContent !== text) place.textContent = text;
+  });
+}
+
+/** Marks the instruction that a run is at, by its number; none where that is null. */
+export function atInstruction(number) {
+  for (const marked of $('code').querySelectorAll('.at')) marked.classList.remove('at');
+  const line = number === null ? null : $('code').children[number];
+  line?.classList.add('at');
+  if (line) scrollWithin($('code'), line);
+}
+
+// Scrolls a box, and not the page, so far that a part of it is in view.
+function scrollWithin(box, part) {
+  const top = part.offsetTop - box.offsetTop, least = top + part.offsetHeight - box.clientHeight;
+  box.scrollTop = Math.min(Math.max(box.scrollTop, least), top);
+}
+
 function light(line, isFromCode) {
   if ($('code-part').hidden || !shown.code) return;
   const box = $('code');
@@ -41,9 +64,7 @@ function light(line, isFromCode) {
     if (isLit) first ??= instruction;
   }
   theEditor().light(line, isFromCode);
-  if (isFromCode || !first) return;
-  const top = first.offsetTop - box.offsetTop, least = top + first.offsetHeight - box.clientHeight;
-  box.scrollTop = Math.min(Math.max(box.scrollTop, least), top);
+  if (!isFromCode && first) scrollWithin(box, first);
 }
 
 /** What a person does with the code. `ask` asks for it when it is opened. */

@@ -67,6 +67,10 @@ const LISTS = {
     ['what is seen', 'lab', 'seen'], ['the left-out labels', 'mitigate', 'infer'],
     ['the compiled code', 'mitigate', 'compile'],
   ],
+  space: [
+    ['the verdict', 'mitigate', 'check'], ['what these starts tell', 'lab', 'leak'],
+    ['the left-out labels', 'mitigate', 'infer'], ['the compiled code', 'mitigate', 'compile'],
+  ],
   other: [['the verdict', 'mitigate', 'check']],
 };
 

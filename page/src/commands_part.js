@@ -3,14 +3,14 @@
 import { escaped } from './colours.js';
 import { commandLines } from './commands.js';
 import { banksNow } from './machine_part.js';
-import { $, shown, state } from './state.js';
+import { $, shown, spaceNow, state } from './state.js';
 
 let kind = ''; // what the lines are for: where there is no program they stay as they were
 
 /** The command lines of what is shown. */
 export function commandsNow() {
   const { verdict, audit, steady, compared } = shown;
-  if (verdict?.kind === 'accepted') kind = audit?.isCut ? 'cut' : 'accepted';
+  if (verdict?.kind === 'accepted') kind = spaceNow() ? 'space' : audit?.isCut ? 'cut' : 'accepted';
   else if (verdict?.kind === 'refused' || !kind) kind = verdict?.kind ?? '';
   return commandLines(state, kind, steady, compared ? banksNow() : null);
 }

@@ -16,6 +16,13 @@ export function indentAfter(before) {
   return `\n${/^[ \t]*/.exec(before)[0]}${/\{\s*$/.test(before) ? '  ' : ''}`;
 }
 
+/** How many columns of white space a line begins with; what does not fit in its row goes on below behind as many. */
+export function indentOf(line, tabSize) {
+  let columns = 0;
+  for (const sign of /^[ \t]*/.exec(line)[0]) columns += sign === '\t' ? tabSize - columns % tabSize : 1;
+  return columns;
+}
+
 function keepIndent(library) {
   const { line, ch } = library.getCursor('from');
   library.replaceSelection(indentAfter(library.getLine(line).slice(0, ch)), 'end', '+input');
@@ -30,7 +37,8 @@ export class Editor {
     const { CodeMirror } = globalThis;
     CodeMirror.defineMode('timed', () => modeOf(labelsNow));
     this.library = CodeMirror(box, {
-      mode: 'timed', lineNumbers: true, matchBrackets: true, gutters: GUTTERS,
+      // a line that is too long goes on below: scrolling sideways lays out all that is in view at each key
+      mode: 'timed', lineNumbers: true, lineWrapping: true, matchBrackets: true, gutters: GUTTERS,
       inputStyle: 'contenteditable', screenReaderLabel: 'Program', undoDepth: 2000, tabSize: 4, indentUnit: 2,
       extraKeys: { Tab: false, 'Shift-Tab': false, Enter: keepIndent },
     });
@@ -165,7 +173,9 @@ export class Editor {
   }
 
   drawLine(line, element) {
-    const found = this.lines.get(line);
+    const found = this.lines.get(line), columns = indentOf(line.text, 4) + 2;
+    element.style.textIndent = `-${columns}ch`;
+    element.style.paddingLeft = `calc(${columns}ch + 4px)`; // the library's own is 4px
     if (found?.tint !== undefined) element.classList.add('tint', `t${found.tint % 8}`);
     if (found?.end) element.dataset.end = found.end;
   }

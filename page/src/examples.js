@@ -48,5 +48,8 @@ export function examplesOf(files) {
       says: 'Accepted, with a prediction that is enough; and all 16 places are told, since labels share the caches.',
       program: files['probe/probe.mit'], starts: countedStarts('secret', 0, 60, 4), budget: '8191',
       environment: OWN, machine: files['machines/shared.toml'] },
+    { name: 'All secrets of a space',
+      says: 'Ranges in place of a list: of 5\u202f408 secrets it is counted what is seen, and how many look alike.',
+      program: files['password_small.mit'], starts: files['password/space.toml'] },
   ].map((example) => ({ ...usual, ...example }));
 }

@@ -7,9 +7,11 @@ import { isSteady } from './steady_text.js';
 
 const capital = (text) => text[0].toUpperCase() + text.slice(1);
 
-// The least of the limits: the count by shared time, the sharp count, or where there is none the bound.
+// The least of the limits: of the counts that are told, or where there is none the bound.
 function limitOf(report, sharp) {
-  return sharp?.shared ?? sharp?.sharp ?? BigInt(report.base) ** BigInt(report.exponent);
+  const told = [sharp?.sharp, sharp?.shared, sharp?.own].filter((count) => count !== undefined);
+  if (told.length === 0) return BigInt(report.base) ** BigInt(report.exponent);
+  return told.reduce((least, count) => (count < least ? count : least));
 }
 
 const NO_LIMIT = 'no limit holds, since all labels share the caches';
@@ -40,6 +42,14 @@ function ofReport({ report, isCut, sharp }, labels) {
   return `Of ${inWords(runs)} runs ${who} sees ${inWords(distinct)} different timings; ${most}.`;
 }
 
+// What is seen of all starts of a space.
+function ofSpace({ runs, distinct, observer }, labels) {
+  const who = `an observer at ${labelText(observer, labels)}`;
+  if (runs === 1) return `Of one start ${who} sees one timing.`;
+  if (distinct === 1) return `${capital(who)} cannot tell these ${inWords(runs)} starts apart.`;
+  return `Of all ${inWords(runs)} starts of the space ${who} sees ${inWords(distinct)} different timings.`;
+}
+
 // What is seen of the runs of a refused program.
 function ofRefused(runs, observer, labels) {
   const distinct = Math.max(...runs.map((run) => run.class)), who = `an observer at ${labelText(observer, labels)}`;
@@ -65,6 +75,7 @@ export function findingText({ verdict, audit, labels, observer, steady = null, r
   }
   if (verdict && verdict.kind !== 'accepted') return `There is no verdict: ${escaped(verdict.text)}.`;
   if (audit?.report) return ofReport(audit, labels);
+  if (audit?.space) return ofSpace(audit.space, labels);
   if (audit?.refusal) return refusalText(audit.refusal, labels, observer);
   return '';
 }
@@ -79,16 +90,24 @@ export function refusalText(refusal, labels, observer) {
     return `No count: the starts must agree in all that an observer at ${labelText(observer, labels)} may see, `
       + `and run ${run} differs from run 1 in ${what}.`;
   }
+  const several = /^disagree: variable (.+)$/.exec(refusal.text);
+  if (several) {
+    return `No count: the starts must agree in all that an observer at ${labelText(observer, labels)} may see, and`
+      + ` <code>${escaped(several[1])}</code> has more than one value in the space.`;
+  }
   const unfinished = /^unfinished: run (\d+) @(\d+)$/.exec(refusal.text);
+  if (unfinished && refusal.isOfSpace) {
+    return `No count: start ${spaced(unfinished[1])} of the space has not halted by the greatest cycle.`;
+  }
   if (unfinished) {
     return `No count: run ${spaced(unfinished[1])} has not halted by the greatest cycle, and on a machine of a file`
       + ' only runs are counted that have.';
   }
-  if (refusal.kind === 'starts') return `No runs: <code>${escaped(refusal.text)}</code>.`;
+  if (refusal.kind === 'starts' || refusal.kind === 'space') return `No runs: <code>${escaped(refusal.text)}</code>.`;
   return `No count: <code>${escaped(refusal.text)}</code>.`;
 }
 
 /** Whether runs that were tried can be told apart. */
 export function isLeaking(audit) {
-  return Boolean(audit?.report && audit.report.distinct > 1);
+  return (audit?.report ?? audit?.space)?.distinct > 1;
 }

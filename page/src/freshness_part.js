@@ -10,7 +10,7 @@ const SHOWN_IN = {
   audit: ['audit', 'words'],
   leak: ['leak-shown'],
   compared: ['machine-shown'],
-  runs: ['lanes', 'lane-says', 'step-says', 'time-legend', 'lane-pages'],
+  runs: ['lanes', 'lane-says', 'step-says', 'step-state', 'time-legend', 'lane-pages'],
   points: ['sweep-picture', 'sweep-text', 'sweep-numbers'],
 };
 

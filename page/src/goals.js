@@ -77,19 +77,19 @@ const keepsLabels = (given, labels) => [...given].every(([name, label]) => label
     is not an answer to what is there, by `fresh`, is not known. */
 export function factsOf({ state, shown, fresh, given }) {
   const isKnown = fresh('verdict'), audit = fresh('audit') ? shown.audit : null,
-    runs = fresh('runs') ? shown.runs : null;
+    runs = fresh('runs') && !shown.listed ? shown.runs : null;
   const report = audit?.report && !audit.isCut ? audit.report : null;
   const haveAllEnded = runs !== null && shown.isAll && runs.every((run) => run.halted);
   const ends = haveAllEnded ? runs.map((run) => run.end) : null;
   return {
     kind: isKnown ? shown.verdict.kind : null,
     mitigates: isKnown ? shown.verdict.mitigates ?? null : null,
-    sequences: report?.distinct ?? null,
+    sequences: (report ?? audit?.space)?.distinct ?? null,
     sharp: report ? audit.sharp?.sharp ?? null : null,
     longest: ends ? Math.max(...ends) : null,
     last: ends ? runs.map((run) => new Map(run.events.map((event) => [event.variable, event.value]))) : null,
     isSameEnd: ends !== null && new Set(ends).size === 1,
-    runs: runs ? runs.length : null,
+    runs: runs ? runs.length : audit?.space?.runs ?? null,
     isSameProgram: state.program === given.program,
     isSameStarts: state.starts === given.starts,
     isSameLabels: isKnown && keepsLabels(given.labels, shown.labels.of),

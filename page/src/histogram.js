@@ -16,25 +16,29 @@ export function bar(share, fill) {
     + ` fill="${fill}"/></svg>`;
 }
 
-function classRow({ size, first }, number, greatest, seen) {
+function classRow({ size, first }, number, greatest, seen, startText) {
   const mark = `<svg width="12" height="12" viewBox="0 0 12 12" aria-hidden="true">`
     + `${classMark(number, 6, 6, 4.4)}</svg>`;
-  const look = `<button type="button" class="link" data-first="${first}"`
-    + ` aria-label="Look at run ${first}, the first one of class ${number}">run ${spaced(first)}</button>`;
-  const cells = [counted(size, 'run'), look].map((text) => `<td class="what">${text}</td>`);
+  const what = startText ? 'the first start' : `run ${first}, the first one`;
+  const look = `<button type="button" class="link" data-first="${startText ? number : first}"`
+    + ` aria-label="Look at ${what} of class ${number}">`
+    + `${startText ? escaped(startText(first)) : `run ${spaced(first)}`}</button>`;
+  const cells = [counted(size, startText ? 'start' : 'run'), look].map((text) => `<td class="what">${text}</td>`);
   return `<tr><th scope="row">${mark}${number}</th>`
     + `<td class="bar-cell">${bar(size / greatest, classColour(number))}</td>${cells.join('')}`
     + `<td>${escaped(seen)}</td></tr>`;
 }
 
-/** The histogram of the classes of a leak. */
-export function histogram({ classes, greatest }) {
+/** The histogram of the classes of a leak. Of starts of a space `startText` has the words for the one with a
+    number. */
+export function histogram({ classes, greatest }, startText = null) {
   const drawn = classes.slice(0, MOST_CLASSES), runs = classes.map(({ events }, k) => ({
     class: k + 1, events: events.map((event) => ({ ...event, isSeen: true })),
   }));
   const texts = seenTexts(runs);
-  const rows = drawn.map((part, k) => classRow(part, k + 1, greatest, texts[k]));
-  const heads = ['class', 'how many runs', '<span class="unseen">number</span>', 'first', 'what is seen'];
+  const rows = drawn.map((part, k) => classRow(part, k + 1, greatest, texts[k], startText));
+  const many = `how many ${startText ? 'starts' : 'runs'}`;
+  const heads = ['class', many, '<span class="unseen">number</span>', 'first', 'what is seen'];
   const rest = classes.length > drawn.length
     ? `<p class="hint">${spaced(drawn.length)} of ${spaced(classes.length)} classes are drawn here; the command line`
       + ' tells all.</p>'

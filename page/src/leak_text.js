@@ -8,18 +8,18 @@ import { term } from './terms.js';
 const HALF = 'var(--work)'; // the colour of bars that are of no class
 
 // The runs that show what no other one shows.
-function aloneText({ classes }) {
-  const alone = classes.filter(({ size }) => size === 1);
+function aloneText({ classes, isSpace }) {
+  const alone = classes.filter(({ size }) => size === 1), word = isSpace ? 'start' : 'run';
   if (alone.length === 0) return '';
-  if (alone.length === 1) return ` What run ${spaced(alone[0].first)} shows, no other one does.`;
+  if (alone.length === 1) return ` What ${word} ${spaced(alone[0].first)} shows, no other one does.`;
   return ` ${spaced(alone.length)} of them show what no other one does.`;
 }
 
 /** What the runs show, in words. */
 export function leakSentence(leak) {
-  const { runs, distinct } = leak;
+  const { runs, distinct, isSpace } = leak;
   if (runs === 1) return 'One run shows one thing, and so tells nothing of its start.';
-  const these = `These ${inWords(runs)} runs`;
+  const these = isSpace ? `All ${inWords(runs)} starts of the space` : `These ${inWords(runs)} runs`;
   if (distinct === 1) return `${these} show one and the same thing: they tell nothing of their starts.`;
   const things = `${these} show ${inWords(distinct)} different things`;
   return distinct === runs ? `${things}: each tells its start.` : `${things}.${aloneText(leak)}`;
@@ -32,10 +32,15 @@ function row(head, share, fill, words) {
 const manyBits = (bits) => (bits === null ? '128 bits or more' : counted(bits, 'bit'));
 
 // What the runs show, and the limits, one below the other; bars by the bits that tell so many things apart.
-function limitsText({ distinct, sharp, base, exponent, sharing }) {
+function limitsText({ distinct, sharp, base, exponent, sharing, isSpace }) {
   const head = '<h3>How many things are told apart</h3><table class="numbers"><tbody>';
+  const of = isSpace ? 'starts' : 'runs';
   const exact = (share) =>
-    row(spaced(distinct), share, HALF, `exactly, by these runs: ${manyBits(bitsOf(distinct, 1))}`);
+    row(spaced(distinct), share, HALF, `exactly, by these ${of}: ${manyBits(bitsOf(distinct, 1))}`);
+  if (isSpace) {
+    const limits = 'Limits of other starts are told of a list of runs.';
+    return `${head}${exact(1)}</tbody></table><p class="word">${limits}</p>`;
+  }
   if (sharing === 'shared') {
     const none = row('none', 0, HALF, 'no limit: all labels share the caches');
     return `${head}${exact(1)}${none}</tbody></table>`;
@@ -52,8 +57,9 @@ function limitsText({ distinct, sharp, base, exponent, sharing }) {
 
 // A number of guesses: with two decimals where that is all of it, or with the hundredths between which it lies.
 function fractionText([above, below]) {
-  if ((100 * above) % below === 0) return spaced(above / below);
-  const low = Math.floor((100 * above) / below), cent = (number) => (number / 100).toFixed(2);
+  const hundredths = 100n * BigInt(above), of = BigInt(below), low = Number(hundredths / of);
+  if (hundredths % of === 0n) return spaced(low / 100);
+  const cent = (number) => (number / 100).toFixed(2);
   return `${spaced(above)}/${spaced(below)}, from ${cent(low)} to ${cent(low + 1)},`;
 }
 

@@ -136,7 +136,7 @@ const cacheSteps = (files) => {
         tells: 'The first two end at cycle 1763, the third 12 cycles later, the fourth 32: a line that is there'
           + ' already costs'
           + ' nothing, a new one 12 cycles, a new page 20 more. So time tells whether two bytes of the key lie near'
-            + ' each other.',
+            + ' each other. Go through a run with “each instruction”, and see which look-up misses, and what is held.',
       },
       program: files['sbox/seen.mit'], starts, observer: 'H', look: 'time',
     },
@@ -315,7 +315,8 @@ const sharedSteps = (files) => {
         options: ['One: the rules accept the program', 'Two', 'Sixteen: each tells its place'],
         right: 2,
         tells: 'Sixteen. The secret look-up leaves its line behind, and the public loop finds it. No limit is told of'
-          + ' such a machine: all of them rest on a law that it breaks. Below, both machines stand side by side.',
+          + ' such a machine: all of them rest on a law that it breaks. Below, both machines stand side by side; and'
+          + ' with “each instruction” the steps of a run show what the cache holds.',
       },
       program, starts: places, budget, environment: OWN, machine: files['machines/shared.toml'], look: 'machine',
     },

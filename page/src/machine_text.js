@@ -19,7 +19,8 @@ const things = (distinct) => (distinct === 1 ? 'one thing' : `${inWords(distinct
 
 // What is seen on both, in words.
 function bothText({ partitioned, shared }, who) {
-  const runs = partitioned.runs === 1 ? 'one run' : `${inWords(partitioned.runs)} runs`;
+  const word = partitioned.isSpace ? 'start' : 'run';
+  const runs = partitioned.runs === 1 ? `one ${word}` : `${inWords(partitioned.runs)} ${word}s`;
   if (partitioned.distinct === shared.distinct) {
     return `Of ${runs} ${who} sees ${things(shared.distinct)}, with partitions and without; other starts may show`
       + ' more there.';
@@ -48,7 +49,9 @@ const NUMBERS = [
 
 function numbersTable(leaks) {
   const heads = leaks.map(([side]) => `<th scope="col">${HEADS[side]}</th>`).join('');
-  const rows = NUMBERS.map(([says, of]) => {
+  // of a space of starts no limit is told
+  const told = leaks[0][1].isSpace ? NUMBERS.filter(([says]) => !says.startsWith('at most')) : NUMBERS;
+  const rows = told.map(([says, of]) => {
     const cells = leaks.map(([, leak]) => `<td>${of(leak)}</td>`).join('');
     return `<tr><th scope="row">${says}</th>${cells}</tr>`;
   });
@@ -56,14 +59,15 @@ function numbersTable(leaks) {
   return `<div class="scroll"><table class="both">${head}<tbody>${rows.join('')}</tbody></table></div>`;
 }
 
-function classesOf(side, { classes, greatest }) {
+function classesOf(side, { classes, greatest, isSpace }) {
   const texts = partingTexts(classes.map(({ events }) => events)), drawn = classes.slice(0, MOST_CLASSES);
   const rows = drawn.map(({ size, first }, k) => {
     const mark = '<svg width="12" height="12" viewBox="0 0 12 12" aria-hidden="true">'
       + `${classMark(k + 1, 6, 6, 4.4)}</svg>`;
     return `<tr><th scope="row">${mark}${k + 1}</th>`
       + `<td class="bar-cell">${bar(size / greatest, classColour(k + 1))}</td>`
-      + `<td class="what">${counted(size, 'run')}, first ${spaced(first)}</td><td>${escaped(texts[k])}</td></tr>`;
+      + `<td class="what">${counted(size, isSpace ? 'start' : 'run')}, first ${spaced(first)}</td>`
+      + `<td>${escaped(texts[k])}</td></tr>`;
   });
   const rest = classes.length > drawn.length
     ? `<p class="hint">${spaced(drawn.length)} of ${spaced(classes.length)} classes are drawn here.</p>` : '';

@@ -170,11 +170,11 @@ function listen() {
   listenVerdict();
   listenStarts(changed);
   listenTime(ask);
-  listenSteps();
+  listenSteps(ask);
   listenSteady(askSteady);
   listenLeak();
   listenCode(ask);
-  listenCosts();
+  listenCosts(ask);
   listenSweep();
   listenMachine(changed, askCompared);
   listenCommands();

@@ -3,9 +3,10 @@
 import { drawFreshness } from './freshness_part.js';
 import { seenTexts } from './seen.js';
 import { withCell, withColumnNamed, withCopy, withoutColumn, withoutRun, withRange } from './starts_edit.js';
+import { rangesOf, spaceOfRun, withIntervals, withoutVariable } from './space.js';
 import { cellValue } from './starts.js';
-import { addersText, seenText, tableText } from './starts_table.js';
-import { $, answeredOf, faults, programNow, shown, starts, state } from './state.js';
+import { addersText, seenText, spaceTable, tableText } from './starts_table.js';
+import { $, answeredOf, faults, programNow, shown, spaceNow, starts, state } from './state.js';
 import { term } from './terms.js';
 import { pickLane } from './time_part.js';
 
@@ -17,20 +18,22 @@ const before = []; // the texts of starts that the table's buttons replaced, the
 let known = [];
 
 export function drawStarts() {
-  const read = starts(), box = $('starts-table'), isText = !$('starts-text').hidden;
-  const refusal = shown.audit?.refusal?.kind === 'starts' && answeredOf.audit?.starts === state.starts
+  const space = spaceNow(), read = space ? { runs: [], space } : starts();
+  const box = $('starts-table'), isText = !$('starts-text').hidden;
+  const refusal = ['starts', 'space'].includes(shown.audit?.refusal?.kind) && answeredOf.audit?.starts === state.starts
     ? shown.audit.refusal.text : '';
   const fault = read.fault ? `${isText ? '' : 'The table cannot show these starts. '}${read.fault}` : refusal;
   $('starts-fault').textContent = faults.cell || fault;
-  const note = shown.runs ? `rows of one ${term('class')} look alike, and share colour and shape` : '';
+  const note = shown.runs && !space ? `rows of one ${term('class')} look alike, and share colour and shape` : '';
   if ($('starts-note').innerHTML !== note) $('starts-note').innerHTML = note;
   $('starts-undo').disabled = before.length === 0;
   box.hidden = isText || Boolean(read.fault);
-  $('starts-add').hidden = box.hidden;
+  $('starts-add').hidden = box.hidden || space !== null;
   if (box.hidden) return;
   known = programNow()?.variables ?? known;
   const about = { variables: known, labels: shown.labels, observer: state.observer };
-  if (!box.contains(document.activeElement)) box.innerHTML = tableText(read, about);
+  if (!box.contains(document.activeElement)) box.innerHTML = space ? spaceTable(space, about) : tableText(read, about);
+  if (space) return;
   const adders = addersText(read, about);
   if ($('starts-add').dataset.drawn !== adders && !$('starts-add').contains(document.activeElement)) {
     $('starts-add').innerHTML = adders;
@@ -51,6 +54,11 @@ function drawSeen(read) {
   }
 }
 
+let replace = null;
+
+/** Other starts in place of those that are there, as one step of what can be undone. */
+export const replaceStarts = (text) => replace(text);
+
 /** What a person does with the table and the text. */
 export function listenStarts(changed) {
   const put = (text) => {
@@ -59,7 +67,7 @@ export function listenStarts(changed) {
     $('toml').value = text;
     changed();
   };
-  const replace = (text) => {
+  replace = (text) => {
     before.push(state.starts);
     put(text);
     drawStarts();
@@ -83,19 +91,34 @@ export function listenStarts(changed) {
   listenAdders($('starts-add'), replace);
 }
 
-const cellFault = (cell) =>
-  `run ${Number(cell.dataset.row) + 1}, ${cell.dataset.name}: ${JSON.stringify(cell.value)} is ${
-  cell.dataset.array === 'true' ? 'no list of numbers with spaces between them, nor letters in quotes'
-    : 'no number of 64 bits'}.`;
+function cellFault(cell) {
+  const where = `run ${Number(cell.dataset.row) + 1}, ${cell.dataset.name}: ${JSON.stringify(cell.value)}`;
+  const isList = cell.dataset.array === 'true', runs = starts().runs?.length ?? 1;
+  if (rangesOf(cell.value, isList)) {
+    return `${where} is a range, and there are ${runs} runs: it stands for all its values where there is one run`
+      + ' alone.';
+  }
+  return `${where} is ${isList ? 'no list of numbers with spaces between them, nor letters in quotes'
+    : 'no number of 64 bits'}${runs === 1 ? ', nor a range as 0..15' : ''}.`;
+}
+
+// The text of the starts with what a cell says; null where it says nothing that can stand there.
+function withCellOf({ value, dataset: { row, name, array } }) {
+  const isList = array === 'true', ranges = rangesOf(value, isList);
+  if (spaceNow()) return ranges && withIntervals(state.starts, name, ranges);
+  const plain = cellValue(value, isList);
+  if (plain !== null) return withCell(state.starts, Number(row), name, plain);
+  return ranges && spaceOfRun(state.starts, name, ranges);
+}
 
 function listenCells(box, put, changed) {
   box.addEventListener('input', (event) => {
     const cell = event.target;
     if (cell.dataset.name === undefined) return;
-    const value = cellValue(cell.value, cell.dataset.array === 'true');
-    cell.setAttribute('aria-invalid', String(value === null));
-    if (value !== null) {
-      put(withCell(state.starts, Number(cell.dataset.row), cell.dataset.name, value));
+    const text = withCellOf(cell);
+    cell.setAttribute('aria-invalid', String(text === null));
+    if (text !== null) {
+      put(text);
     } else {
       faults.cell = cellFault(cell);
       changed();
@@ -125,7 +148,7 @@ function listenRows(box, replace) {
     event.target.blur();
     if (copy !== undefined) replace(withCopy(state.starts, Number(copy)));
     else if (remove !== undefined) replace(withoutRun(state.starts, Number(remove)));
-    else replace(withoutColumn(state.starts, drop));
+    else replace(spaceNow() ? withoutVariable(state.starts, drop) : withoutColumn(state.starts, drop));
   });
   box.addEventListener('mouseover', (event) => {
     const row = event.target.closest('tr[data-run]');

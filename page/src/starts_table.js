@@ -2,6 +2,7 @@
 
 import { classMark, escaped, labelClass } from './colours.js';
 import { counted, spaced } from './numbers.js';
+import { rangeText } from './space.js';
 import { cellText, columnsOf } from './starts.js';
 
 /** How many runs the table shows. */
@@ -47,6 +48,21 @@ export function tableText(starts, { variables, labels, observer }) {
   return `<table><thead><tr><th scope="col">run</th>${heads.join('')}<th scope="col">seen at ${escaped(observer)}</th>`
     + `<th scope="col"><span class="unseen">change</span></th></tr></thead>`
       + `<tbody>${rows.join('')}</tbody></table>${rest}`;
+}
+
+/** The table of a space of starts: one row, whose cells have ranges, and how many starts these are. */
+export function spaceTable(space, { variables, labels }) {
+  const names = [...space.memory.keys()], known = new Map(variables.map(({ name, length }) => [name, length !== null]));
+  const cells = names.map((name) => {
+    const value = space.memory.get(name), text = rangeText(value), isArray = known.get(name) ?? Array.isArray(value);
+    const width = Math.min(text.length + 3, 40), shown = escaped(name);
+    return `<td><input data-row="0" data-name="${shown}" data-array="${isArray}" value="${escaped(text)}"`
+      + ` aria-label="all starts, ${shown}" autocomplete="off" style="min-width:${width}ch"></td>`;
+  });
+  const heads = names.map((name) => headText(name, labels, known.has(name) || variables.length === 0));
+  return `<table><thead><tr><th scope="col">starts</th>${heads.join('')}</tr></thead><tbody><tr><td class="what">${
+    spaced(space.count)}</td>${cells.join('')}</tr></tbody></table><p class="hint">All choices of a value for each`
+    + ' variable: a number is the one value, 0..15 are all from 0 to 15.</p>';
 }
 
 /** What can be added: a column of a variable that has none, a name for a column of no variable, runs with a range. */

@@ -1,6 +1,7 @@
 // What the page holds: what was written and chosen, what was answered of it, and who is asked.
 
 import { mitigates, readProgram } from './language.js';
+import { readSpace } from './space.js';
 import { readStarts } from './starts.js';
 
 /** An element of the page, by its name. */
@@ -28,6 +29,7 @@ export const shown = {
   machineFault: null, // what the lab refuses in the machine file
   compared: null, // what the runs tell with partitions, and where all labels share the caches
   runs: null, mitigates: null, isAll: true, mostRuns: undefined, // the runs: all of them, or as many as are asked for
+  listed: null, // the starts of the runs, where these are the first ones of the classes of a space
   view: null, page: 0, lane: -1, // the cycles and the runs that the lanes show, and the run that is looked at
   points: [], unfinished: 0, least: null, // what was tried with other predictions, and with how many not all runs halt
   isSwept: false, // whether all that there is to try was tried
@@ -39,13 +41,19 @@ export const answeredOf = {};
 /** Who is asked, once the module has started: `tool` for answers, `sweeper` for the points of the sweep. */
 export const calls = { tool: null, sweeper: null };
 
-let read = { text: null, starts: null };
+let read = { text: null, starts: null, space: null };
+
+function readNow() {
+  const text = state.starts;
+  if (read.text !== text) read = { text, starts: readStarts(text), space: readSpace(text) };
+  return read;
+}
 
 /** The starts as a table, or the fault that leaves none. */
-export function starts() {
-  if (read.text !== state.starts) read = { text: state.starts, starts: readStarts(state.starts) };
-  return read.starts;
-}
+export const starts = () => readNow().starts;
+
+/** The space of starts that is given in place of a list of them, or null. */
+export const spaceNow = () => readNow().space;
 
 /** The program as the page reads it; null where it is none. */
 export const programNow = () => readProgram(state.program);

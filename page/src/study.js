@@ -128,6 +128,14 @@ export async function leakOf(tool, state) {
   return status === DONE ? readLeak(text) : null;
 }
 
+/** What all starts of a space tell, by the lab: {space} with the leak, or {refusal}. */
+export async function spaceOf(tool, state) {
+  const answer = await tool.call(tool.has('lab') ? 'lab' : 'mitigate',
+    tool.has('lab') ? WORDS.leak(state) : WORDS.audit(state), files(state));
+  const leak = answer.status === DONE ? readLeak(answer.text) : null;
+  return leak ? { space: leak } : { refusal: { ...refusalOf(answer), isOfSpace: true } };
+}
+
 /** Whether the program is constant in time for the observer, by the lab; a yes has as `end` the answer to the same of
     its end. Null where the lab is not in the module. */
 export async function steadyOf(tool, state) {

@@ -47,6 +47,11 @@ export const TERMS = {
       + ' fit into the budget together.',
     links: [glossary('Count by shared time'), SHARP],
   },
+  'own first predictions': {
+    says: 'A number of different timed sequences like the sharp count, and at most that. There each mitigation of a run'
+      + ' is counted with a first prediction of its own, the least at its place, and not with the least of its level.',
+    links: [glossary('Count by own first predictions'), SHARP],
+  },
   bound: {
     says: 'A number of different timed sequences that is proved never to be passed: (K+1) to the power N·b. K is the'
       + ' number of relevant mitigations of a run, N the number of labels that do not flow to the observer, b the'

@@ -11,6 +11,8 @@ import { cycleAt, moved, runText, timeline, wholeView, zoomed } from './timeline
 
 const lanesWidth = () => Math.max($('lanes').clientWidth - 2, 280);
 
+const FIRSTS = 'Of each class of the space’s starts the run of the first one.';
+
 // What stands in place of the lanes where there are no runs to draw.
 function placeholder() {
   const kind = answeredOf.verdict ? shown.verdict?.kind : null;
@@ -36,10 +38,11 @@ export function drawTime() {
   shown.view ??= wholeView(runs);
   const first = shown.page * LANES, part = runs.slice(first, first + LANES);
   box.innerHTML = timeline(part, { width: lanesWidth(), view: shown.view, first: first + 1 });
-  const count = starts().runs?.length ?? runs.length;
-  $('time-note').textContent = shown.isAll ? '' : `The first ${spaced(runs.length)} of ${spaced(count)} runs.`;
-  $('lane-pages').hidden = runs.length <= LANES && shown.isAll;
-  $('lane-pages').innerHTML = pagesText(runs.length, first, part.length, shown.isAll);
+  const count = starts().runs?.length ?? runs.length, hasAll = shown.isAll || shown.listed !== null;
+  $('time-note').textContent = shown.listed ? FIRSTS
+    : shown.isAll ? '' : `The first ${spaced(runs.length)} of ${spaced(count)} runs.`;
+  $('lane-pages').hidden = runs.length <= LANES && hasAll;
+  $('lane-pages').innerHTML = pagesText(runs.length, first, part.length, hasAll);
   $('time-legend').innerHTML =
     timeLegend(runs, { hasLab: calls.tool.has('lab'), hasMitigates: mitigatesNow().length > 0 });
   const told = (shown.mitigates ?? []).filter((mitigate) => mitigate.ended).map(mitigateText);

@@ -119,6 +119,13 @@ test('the numbers, and what they are', () => {
     /417 225 900at most, by the sharp count: 29 bits23 603 879at most, by shared time: 25 bits2\^20at most/);
   assert.match(found({ report, sharp: { ...login, shared: 40n } }), /; at most 40 are possible\.$/);
   assert.doesNotMatch(auditBoxes({ report, sharp: { ...sharp, shared: 16n } }), /shared time/);
+  // own first predictions, where no other count is as small
+  assert.match(plain(auditBoxes({ report, sharp: { ...login, own: 900n } })),
+    /by the sharp count: 29 bits900at most, by own first predictions: 10 bits2\^20at most/);
+  assert.match(found({ report, sharp: { ...login, own: 41n } }), /; at most 41 are possible\.$/);
+  assert.doesNotMatch(auditBoxes({ report, sharp: { ...sharp, shared: 15n, own: 15n } }), /own first/);
+  assert.match(plain(auditWords({ report, sharp: { ...login, own: 900n } }, labels, { observer: 'L' })),
+    / of its level here, and that by own first predictions where none has one below the least at its place /);
   const holds = (counts) => plain(auditWords({ report, sharp: counts }, labels, { observer: 'L' }));
   assert.match(holds(login), / All limits hold .*; both counts where besides no relevant mitigation /);
   assert.match(holds(sharp), / Both limits hold .*; the sharp count, where besides no relevant mitigation /);

@@ -26,7 +26,9 @@ def each_example(page):
         is_refused = sentence.startswith("Refused")
         holds(verdict.startswith("Refused" if is_refused else "Accepted"), f"{name}: {verdict}")
         holds(page.text("#sentence").startswith("Refused") == is_refused, f"{name}: {page.text('#sentence')}")
-        same(page.count(".lane"), page.count("#starts-table tr[data-run]"), f"{name}: lanes")
+        # of a space of starts there is a lane for each class
+        lanes = page.count("#starts-table tr[data-run]") or page.count("#leak-classes tbody tr")
+        same(page.count(".lane"), lanes, f"{name}: lanes")
         holds(bool(page.text("#audit")) != is_refused, f"{name}: an audit, of what is accepted alone")
         same(page.text("#freshness"), "The program that is here is refused, so no limit holds of it." if is_refused else "", name)
 

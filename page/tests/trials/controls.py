@@ -272,6 +272,33 @@ def stepped_through(page):
     same(page.text("#step-says"), "", "another program begins anew")
 
 
+def each_instruction(page):
+    """A run can be gone through instruction by instruction, with what was looked up and what is held; the last one ends
+    when the tool says that the run does."""
+    page.choose(0)
+    page.run("document.getElementById('steps-all').click()")
+    page.idle()
+    page.run("document.getElementById('step-on').click()")
+    text = page.text("#step-says").replace("\u202f", "")
+    holds(re.match(r"Run 1, instruction 1 of \d+, cycle 29: 0 PUSH 16 \[L, L\] cost 29 cycles: 1; page miss 20, code line miss 8\.", text), text)
+    holds("code 0–7" in page.text("#step-state") and "nothing" in page.text("#step-state"), page.text("#step-state"))
+    count = int(re.search(r" of (\d+),", text)[1])
+    page.run(f"for (let k = 1; k < {count}; k++) document.getElementById('step-on').click()")
+    end = re.search(r"^end @(\d+)$", call("lab", "timeline program.mit starts.toml", page.program(), page.value("#toml")), re.M)[1]
+    text = page.text("#step-says").replace("\u202f", "")
+    holds(text.startswith(f"Run 1, instruction {count} of {count}, cycle {end}: ") and "HALT" in text, f"{text}: {end}")
+    holds(page.run("return document.getElementById('step-on').disabled"), "nothing is behind the end")
+    page.write_now(page.program() + " ")
+    all_dimmed(page, "#step-state", "what is held in an earlier program")
+    page.set("#environment", "flat", "change")
+    page.idle()
+    page.run("document.getElementById('step-on').click()")
+    holds(" cost 1 cycle: 1." in page.text("#step-says"), page.text("#step-says"))
+    holds("Without caches" in page.text("#step-state"), page.text("#step-state"))
+    page.run("document.getElementById('steps-all').click()")
+    holds(page.run("return document.getElementById('step-state').hidden"), "what is held is left out")
+
+
 def costs_beside_lines(page):
     """Beside the lines stand the cycles of the chosen run, as the lab's timeline tells them."""
     page.choose(0)
@@ -283,8 +310,17 @@ def costs_beside_lines(page):
         begin, worked, end = (int(n) for n in re.search(r"^begin .* @(\d+)$[\s\S]*^end #0 .* worked (\d+) .* @(\d+)$", run, re.M).groups())
         done = re.search(r"^done = 1 @(\d+)$", run, re.M)[1]
         same(page.text("#costs-of"), f"Cycles of run {number + 1}", "whose cycles")
+        tips = page.run("return [...document.querySelectorAll('#editor .cost')].map((one) => one.dataset.tip)")
+        tips = [tip.replace("\u202f", "") for tip in tips]
+        waited = end - begin - worked
+        told_of = f"1 mitigation: worked {worked} cycles, waited {waited}, "
+        holds(any(tip.startswith(told_of) for tip in tips), f"{tips}: {told_of}")
+        holds(any(tip.startswith(f"assigned at cycle {done}; its code: 2 instructions, ") for tip in tips), f"{tips}: {done}")
+        # the cycles of all lines, what was waited, and the 1 of HALT, whose line of the cache is there, are those of the run
         costs = [text.replace("\u202f", "") for text in page.texts("#editor .cost")]
-        holds(f"{worked}+{end - begin - worked}" in costs and f"@{done}" in costs, f"{costs}: {worked} {begin} {end} {done}")
+        holds(any(text.endswith(f" +{waited}") for text in costs), f"{costs}: {waited}")
+        spent = sum(int(number) for text in costs for number in re.findall(r"(?<![(\d])\d+(?![\d)])", text))
+        same(spent + 1, int(re.search(r"^end @(\d+)$", run, re.M)[1]), f"the sum of {costs}")
     page.caret("done := 1")
     page.browser.type(" ")
     same(page.count("#editor .cost"), 0, "cycles of an earlier program")
@@ -295,6 +331,7 @@ def costs_beside_lines(page):
 TRIALS = [
     costs_beside_lines,
     stepped_through,
+    each_instruction,
     defaults,
     environments,
     budgets,

@@ -86,6 +86,25 @@ def left_out_labels(page):
     holds(page.run(ENDS) >= 3, "with them again")
 
 
+SIDEWAYS = """
+const { scroller } = document.querySelector('.CodeMirror').CodeMirror.display;
+return [scroller.scrollLeft, document.querySelectorAll('.CodeMirror-line')[2].getClientRects()[0].height];
+"""
+
+
+def long_line(page):
+    """A line that is typed on past the edge goes on below, where the next key lays out no more than that line."""
+    page.write("var l : L;\nvar h : H;\nl := 1\n", "[[run]]\n")
+    _, high = page.run(SIDEWAYS)
+    page.caret("l := 1")
+    page.browser.type(" + 1" * 30)
+    page.idle()
+    left, higher = page.run(SIDEWAYS)
+    same(left, 0, "how far the text went sideways")
+    holds(higher >= 2 * high, f"the line is {higher} high, and one row {high}")
+    page.caret("l := 1 + 1", after=False)
+
+
 # What a key costs in the page's own thread: each is put in, and the layout that follows is asked for.
 COST = """
 const library = document.querySelector('.CodeMirror').CodeMirror, input = library.getInputField(), costs = [];
@@ -137,7 +156,7 @@ def keys_are_cheap(page):
     """What a typed key costs in processor time, which other programs change little; on the clock, where Firefox tells no
     such time, the key that a quarter of 30 keys do not pass. The limits leave room for a machine that does other things:
     page/README.md tells what was measured."""
-    for size, most in ((10_000, 60), (200_000, 90)):
+    for size, most in ((10_000, 40), (200_000, 60)):
         if page.browser.name == "chromium":
             cost = typed_cost(page, size)
         else:
@@ -154,4 +173,4 @@ def measure(page):
         print(f"  {size} bytes: a key costs {middle:.1f} ms, at most {most:.1f}{more}")
 
 
-TRIALS = [one_undo, finds, brackets, indents, left_out_labels, long_text, keys_are_cheap]
+TRIALS = [one_undo, finds, brackets, indents, left_out_labels, long_line, long_text, keys_are_cheap]

@@ -197,6 +197,48 @@ def asked_where_accepted(page):
     holds(page.text("#steady-says").startswith("The rules bound"), "another program is not asked about")
 
 
-TRIALS = [exact_leak, looks_at_its_run, no_exact_leak, refused_is_shown, steady_and_refused, not_steady, asked_where_accepted]
+SPACE = 'version = 3\n\n[space]\nmemory = { h = "0..15" }\n'
+
+
+def spaces(page):
+    """A range in a cell of the only run makes a space of starts. What all of them tell is counted as `lab leak` counts it,
+    the first start of each class is drawn, and can be made a run."""
+    page.choose(4)
+    page.set("#toml", "[[run]]\nmemory = { h = 3 }\n")
+    page.idle()
+    page.run("document.querySelector('#starts-table input').focus()")
+    page.browser.press("Control+a")
+    page.browser.type("0..15")
+    page.idle()
+    same(page.value("#toml"), SPACE, "the starts")
+    told = call("lab", "leak program.mit starts.toml --observer L", page.program(), SPACE)
+    distinct = int(re.search(r"^distinct (\d+)$", told, re.M)[1])
+    holds(distinct > 1 and "starts 16\n" in told, told)
+    says = f"Of all 16 starts of the space an observer at L sees {['', '', 'two', 'three', 'four', 'five'][distinct]} different timings."
+    same(page.text("#sentence"), says, "what was found")
+    sizes = re.findall(r"^class (\d+) first (\d+)\t", told, re.M)
+    same([row[2] for row in page.run(ROWS)], [f"{size} start{'s' if size != '1' else ''}" for size, _ in sizes], "how many starts each class has")
+    same(page.texts("#leak-classes [data-first]"), [f"h = {int(first) - 1}" for _, first in sizes], "the first ones")
+    for bits in re.findall(r"^(?:min-entropy|shannon) (\S+ to \S+)$", told, re.M):
+        holds(bits in page.text("#leak-numbers"), f"{bits}: {page.text('#leak-numbers')}")
+    same(page.count(".lane"), distinct, "lanes")
+    same(page.text("#freshness"), "", "nothing is of earlier starts")
+    page.run("document.activeElement.blur(); document.getElementById('leak-list').click()")
+    page.idle()
+    same(page.count("#starts-table tr[data-run]"), distinct, "runs")
+    holds(page.text("#sentence").endswith(" are possible."), f"limits are told of a list: {page.text('#sentence')}")
+    page.browser.click("#starts-undo")
+    page.idle()
+    same(page.value("#toml"), SPACE, "undone")
+    page.set("#toml", SPACE.replace("15", str(2**40)))
+    page.idle()
+    same(page.text("#sentence"), "No runs: space: too many starts.", "too many starts")
+    page.set("#toml", "[[run]]\n\n[[run]]\nmemory = { h = 3 }\n")
+    page.idle()
+    page.set("#starts-table input", "0..15")
+    holds("there are 2 runs" in page.text("#starts-fault"), page.text("#starts-fault"))
+
+
+TRIALS = [exact_leak, spaces, looks_at_its_run, no_exact_leak, refused_is_shown, steady_and_refused, not_steady, asked_where_accepted]
 if not PROGRAMS.exists():
     TRIALS = []
