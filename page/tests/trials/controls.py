@@ -280,7 +280,10 @@ def each_instruction(page):
     page.idle()
     page.run("document.getElementById('step-on').click()")
     text = page.text("#step-says").replace("\u202f", "")
-    holds(re.match(r"Run 1, instruction 1 of \d+, cycle 29: 0 PUSH 16 \[L, L\] cost 29 cycles: 1; page miss 20, code line miss 8\.", text), text)
+    holds(
+        re.match(r"Run 1, instruction 1 of \d+, cycle 29: 0 PUSH 16 \[L, L\] cost 29 cycles: 1; page miss 20, code line miss 8\.", text),
+        text,
+    )
     holds("code 0–7" in page.text("#step-state") and "nothing" in page.text("#step-state"), page.text("#step-state"))
     count = int(re.search(r" of (\d+),", text)[1])
     page.run(f"for (let k = 1; k < {count}; k++) document.getElementById('step-on').click()")

@@ -217,7 +217,11 @@ def spaces(page):
     says = f"Of all 16 starts of the space an observer at L sees {['', '', 'two', 'three', 'four', 'five'][distinct]} different timings."
     same(page.text("#sentence"), says, "what was found")
     sizes = re.findall(r"^class (\d+) first (\d+)\t", told, re.M)
-    same([row[2] for row in page.run(ROWS)], [f"{size} start{'s' if size != '1' else ''}" for size, _ in sizes], "how many starts each class has")
+    same(
+        [row[2] for row in page.run(ROWS)],
+        [f"{size} start{'s' if size != '1' else ''}" for size, _ in sizes],
+        "how many starts each class has",
+    )
     same(page.texts("#leak-classes [data-first]"), [f"h = {int(first) - 1}" for _, first in sizes], "the first ones")
     for bits in re.findall(r"^(?:min-entropy|shannon) (\S+ to \S+)$", told, re.M):
         holds(bits in page.text("#leak-numbers"), f"{bits}: {page.text('#leak-numbers')}")

@@ -3,5 +3,5 @@ use Rattle.part_tlb.specs.Machine.{hardware_by_history}
 use Rattle.hardware.specs.Laws.{AnyTouches}
 use Rattle.hardware_sharp.proofs.laws.lowered_few_sequences_own_on_machines.Goals as goal
 
-pub returns-clause : goal.returns-clause
-returns-clause c = λ hw has own. lowered_own (hardware_by_history hw) AnyTouches (c.machines_and_the_laws.ensures.partitioned hw has own)
+pub returns : goal.returns
+returns c = λ hw has own. lowered_own (hardware_by_history hw) AnyTouches (c.machines_and_the_laws.ensures.partitioned hw has own)
