@@ -52,13 +52,18 @@ abbrev mutual
   json_text (number n) = decimal n
   json_text (string s) = quoted s
   json_text (list ds) = codes "[" ++ (drop 1 (items_text ds) ++ codes "]")
-  json_text (object ms) = codes "{" ++ (drop 1 (members_text ms) ++ codes "}")
+  json_text (object ms) = codes "{" ++ (first_text ms ++ codes "}")
 
   -- each item with a comma before it, of which that of the first one is left out
   pub items_text : Items → List ℕ
   items_text no_items = []
   items_text (item d ds) = codes "," ++ (json_text d ++ items_text ds)
 
+  pub first_text : Members → List ℕ
+  first_text no_members = []
+  first_text (member k d ms) = quoted k ++ (codes ":" ++ (json_text d ++ members_text ms))
+
+  -- the members behind the first one
   pub members_text : Members → List ℕ
   members_text no_members = []
   members_text (member k d ms) = codes "," ++ (quoted k ++ (codes ":" ++ (json_text d ++ members_text ms)))

@@ -89,6 +89,19 @@ pub fn put_number(out: &mut Vec<u8>, n: u64) -> Result<(), AllocError>
     Ok(())
 }
 
+/// Begins an object by its first key.
+///
+/// # Errors
+/// `AllocError` is want of memory.
+pub fn put_first_key(out: &mut Vec<u8>, key: &[u8]) -> Result<(), AllocError>
+    ensures { OnOk result (out.new.items ≡ out.old.items ++ (codes "{" ++ (quoted key.now ++ codes ":"))) }
+{
+    out.extend_from_slice(b"{")?;
+    put_string(out, key)?;
+    out.extend_from_slice(b":")?;
+    Ok(())
+}
+
 /// Appends a key of an object behind another member.
 ///
 /// # Errors
