@@ -1,5 +1,5 @@
 -- From what a text spells to what is found in it.
-use Rattle.std.proofs.Common.{◌≡◌, ◌≢◌, ◌≤◌, ℕ, List, ◌++◌, length, Option, Some, refl, sym, ap, subst, ◌∙◌, inl, inr}
+use Rattle.std.proofs.Common.{◌≡◌, ◌≢◌, ◌≤◌, ℕ, List, [], ◌++◌, length, Option, Some, refl, sym, ap, subst, ◌∙◌, inl, inr}
 use Rattle.text_base.specs.declared.pos.Pos.{Pos}
 use Rattle.tim_base.specs.Told.{limit, IsTold}
 use Rattle.mit_syntax.specs.declared.fault.TextFault.{TextFault}
@@ -24,13 +24,15 @@ use Rattle.flow_path.specs.Told.{IsEarliest}
 use Rattle.tool_texts.specs.declared.status.Status.{Status}
 use Rattle.tool_texts.specs.declared.status.Status.TheVariants as status
 use Rattle.tool_texts.specs.Texts.{program, text_fault_line, parse_fault_line, header_name, refused_line}
-use Rattle.tool_texts.specs.Ends.{Broke}
+use Rattle.tool_texts.specs.Ends.{Broke, Tells, Nothing}
 use Rattle.tool_stages.specs.Fetches.{FileStops}
 use Rattle.tool_stages.specs.Stages.{Then, Reads}
+use Rattle.tool_stages.specs.Content.{Content}
 use Rattle.found_print.specs.Faults.{text_place, parse_place, fault_object}
 use Rattle.found_print.specs.Refused.{refused_object}
 use Rattle.lab_why.specs.Reasons.{refusal_text}
-use Rattle.lab_check.specs.Answers.{CheckStops, IsFound}
+use Rattle.lab_check.specs.Answers.{CheckStops, FoundStops, IsFound, IsCheckAnswer}
+use Rattle.lab_check.specs.Found.{unread_line}
 use Rattle.lab_check.specs.Faults.{HasTextFound, HasTokensFound, TextCould, TokensCould}
 use Rattle.lab_check.specs.Reasons.{HasReasonFound}
 
@@ -132,23 +134,74 @@ finds_reason c p q r f chain x text tokens t bytes list program kept least most 
 
 -- ---- from a text to a file
 
+-- a count that rose since then rose since the call began
+pub check_rise : (R R' : Type 0) (c : Option (Option (List ℕ))) (s : Status) (t : List ℕ) → (R → R') → CheckStops R c s t → CheckStops R' c s t
+check_rise R R' c status.Done t f h = h
+check_rise R R' c status.Refused t f h = h
+check_rise R R' c status.Syntax t f h = h
+check_rise R R' c status.Starts t f h = h
+check_rise R R' c status.Usage t f h = h
+check_rise R R' c status.ReadFault t f h = (f h.0, h.1)
+check_rise R R' c status.WriteFault t f h = h
+check_rise R R' c status.TooLong t f h = h
+check_rise R R' c status.Budget t f h = h
+check_rise R R' c status.Disagree t f h = h
+check_rise R R' c status.Unfinished t f h = h
+check_rise R R' c status.Memory t f h = h
+check_rise R R' c status.Rejected t f h = h
+
 -- an answer for a text is one for the file that holds it
 pub text_answers : (R : Type 0) (c : Option (Option (List ℕ))) (s : Status) (t : List ℕ)
     → Then (CheckStops ⊥ c) (Reads c) (λ p. IsFound c p) s t → Then (CheckStops R c) (Reads c) (λ p. IsFound c p) s t
+text_answers R c s t (inl h) = inl (check_rise ⊥ R c s t (λ e. absurd e) h)
 text_answers R c s t (inr h) = inr h
-text_answers R c s t (inl h) = inl (rise s h)
-  where
-    rise : (s : Status) → CheckStops ⊥ c s t → CheckStops R c s t
-    rise status.Done h = absurd h
-    rise status.Refused h = absurd h
-    rise status.Syntax h = h
-    rise status.Starts h = absurd h
-    rise status.Usage h = absurd h
-    rise status.ReadFault h = absurd h.0
-    rise status.WriteFault h = absurd h
-    rise status.TooLong h = h
-    rise status.Budget h = absurd h
-    rise status.Disagree h = absurd h
-    rise status.Unfinished h = absurd h
-    rise status.Memory h = absurd h
-    rise status.Rejected h = absurd h
+
+-- ---- from an answer to what is told
+
+module _ (Rises : List ℕ → Type 0) (content : Content) (file : List ℕ) where
+  Answers : Status → List ℕ → Type 0
+  Answers = IsCheckAnswer Rises content file
+
+  done_alone : (p : Syntax) (s : Status) (t : List ℕ) → (s ≡ status.Done → ⊥) → (FoundStops (content file) p s t → ⊥) → IsFound (content file) p s t → ⊥
+  done_alone p s t n f (inl h) = f h
+  done_alone p s t n f (inr h) = n h.2.0
+
+  -- no answer is a write fault, or tells of memory
+  pub no_write : (t : List ℕ) → Answers status.WriteFault t → ⊥
+  no_write t (inl h) = h
+  no_write t (inr h) = done_alone h.0 status.WriteFault t (λ e. cc) (λ e. e) h.2
+
+  no_memory : (t : List ℕ) → Answers status.Memory t → ⊥
+  no_memory t (inl h) = h
+  no_memory t (inr h) = done_alone h.0 status.Memory t (λ e. cc) (λ e. e) h.2
+
+  pub check_tells : (s : Status) (t : List ℕ) → Answers s t → Tells Nothing Answers s t
+  check_tells status.Done t h = h
+  check_tells status.Refused t h = h
+  check_tells status.Syntax t h = h
+  check_tells status.Starts t h = h
+  check_tells status.Usage t h = h
+  check_tells status.ReadFault t h = h
+  check_tells status.WriteFault t h = h
+  check_tells status.TooLong t h = h
+  check_tells status.Budget t h = h
+  check_tells status.Disagree t h = h
+  check_tells status.Unfinished t h = h
+  check_tells status.Memory t h = absurd (no_memory t h)
+  check_tells status.Rejected t h = h
+
+  -- a file that gives no bytes, or want of memory
+  pub unread_tells : (s : Status) (t : List ℕ) → Broke (FileStops (Rises file) (content file) program) s t → Tells Nothing Answers s (unread_line s t)
+  unread_tells status.Done t h = absurd h
+  unread_tells status.Refused t h = absurd h
+  unread_tells status.Syntax t h = absurd h
+  unread_tells status.Starts t h = absurd h
+  unread_tells status.Usage t h = absurd h
+  unread_tells status.ReadFault t h = inl (h.0, refl)
+  unread_tells status.WriteFault t h = absurd h
+  unread_tells status.TooLong t h = inl (h.0, refl)
+  unread_tells status.Budget t h = absurd h
+  unread_tells status.Disagree t h = absurd h
+  unread_tells status.Unfinished t h = absurd h
+  unread_tells status.Memory t h = ([], refl, h)
+  unread_tells status.Rejected t h = absurd h

@@ -13,6 +13,7 @@ ghost use Rattle.lab_tool.specs.Complete.{CanEnd, files_of, own_files};
 ghost use Rattle.lab_tool.specs.Machines.{BeforeOn, OnMachine, machine_in};
 
 use lab_bound::bound::bound;
+use lab_check::check::check;
 use lab_leak::leak::leak;
 use lab_seen::seen::seen;
 use lab_steady::steady::steady;
@@ -106,6 +107,7 @@ fn obey_in<S: Shelf, W: Sink>(
             let setting = Setting { env, budget };
             leak(alloc, shelf, out, file, starts, observer, setting)
         }
+        Question::Check { file } => check(alloc, shelf, out, file),
         Question::Help { command } => finish(out, help_text(command), Status::Done),
         Question::Version => finish(out, version_text(), Status::Done),
     }
