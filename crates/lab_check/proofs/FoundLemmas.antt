@@ -1,5 +1,6 @@
 -- From what a text spells to what is found in it.
-use Rattle.std.proofs.Common.{◌≡◌, ◌≢◌, ◌≤◌, ℕ, List, [], ◌++◌, length, Option, Some, refl, sym, ap, subst, ◌∙◌, inl, inr}
+use Rattle.std.proofs.Common.{◌≡◌, ◌≢◌, ◌≤◌, ℕ, List, [], ◌++◌, length, Option, Some, refl, sym, ap, subst, ◌∙◌, inl, inr, Result, IfOk}
+use Rattle.text_base.specs.declared.pos.Memory.{Memory}
 use Rattle.text_base.specs.declared.pos.Pos.{Pos}
 use Rattle.tim_base.specs.Told.{limit, IsTold}
 use Rattle.mit_syntax.specs.declared.fault.TextFault.{TextFault}
@@ -12,7 +13,7 @@ use Rattle.mit_parser.specs.declared.fault.ParseFault.TheVariants as parse
 use Rattle.mit_parser.specs.Words.{told}
 use Rattle.mit_parser.specs.Spells.{Refuses}
 use Rattle.timing_types.specs.declared.rule.TypeFault.{TypeFault}
-use Rattle.timing_types.specs.declared.rule.TypeFault.TheVariants.{Refused as BrokenAt, Memory}
+use Rattle.timing_types.specs.declared.rule.TypeFault.TheVariants.{Refused as BrokenAt, Memory as NoRoom}
 use Rattle.timing_types.specs.Labelling.{Labelling}
 use Rattle.timing_types.specs.Labelled.{LabelledProgram, HasType, first_broken_of}
 use Rattle.label_infer.specs.Least.{IsLeast, TypesMost}
@@ -32,7 +33,11 @@ use Rattle.found_print.specs.Faults.{text_place, parse_place, fault_object}
 use Rattle.found_print.specs.Refused.{refused_object}
 use Rattle.lab_why.specs.Reasons.{refusal_text}
 use Rattle.lab_check.specs.Answers.{CheckStops, FoundStops, IsFound, IsCheckAnswer}
-use Rattle.lab_check.specs.Found.{unread_line}
+use Rattle.lab_check.specs.Found.{IsSpelled, IsTextAnswer, unread_line}
+use Rattle.lab_check.specs.declared.answer.Answer.{Answer}
+use Rattle.lab_check.specs.declared.faulty.Spelled.{Spelled}
+use Rattle.lab_check.specs.declared.faulty.Spelled.TheVariants.{Spells}
+use Rattle.lab_why.proofs.FaultLemmas.{if_ok}
 use Rattle.lab_check.specs.Faults.{HasTextFound, HasTokensFound, TextCould, TokensCould}
 use Rattle.lab_check.specs.Reasons.{HasReasonFound}
 
@@ -110,7 +115,7 @@ has_reason c p l (BrokenAt rule at have allowed) chain x least most none first r
       };
       text = refl;
     }
-has_reason c p l Memory chain x least most none first reason cheapest earliest = absurd reason.ends
+has_reason c p l NoRoom chain x least most none first reason cheapest earliest = absurd reason.ends
 
 -- the refusal of the program with its least labels is told with the text and the tokens that were read
 pub finds_reason : (c : Option (Option (List ℕ))) (p : Syntax) (q r : LabelledProgram) (f : TypeFault) (chain : List Step) (x : Reads c p) (text : List ℕ)
@@ -155,6 +160,25 @@ pub text_answers : (R : Type 0) (c : Option (Option (List ℕ))) (s : Status) (t
     → Then (CheckStops ⊥ c) (Reads c) (λ p. IsFound c p) s t → Then (CheckStops R c) (Reads c) (λ p. IsFound c p) s t
 text_answers R c s t (inl h) = inl (check_rise ⊥ R c s t (λ e. absurd e) h)
 text_answers R c s t (inr h) = inr h
+
+-- an answer for a text is no read fault
+no_read : (c : Option (Option (List ℕ))) (t : List ℕ) → Then (CheckStops ⊥ c) (Reads c) (λ p. IsFound c p) status.ReadFault t → ⊥
+no_read c t (inl h) = h.0
+no_read c t (inr (p, reads, inl h)) = h
+no_read c t (inr (p, reads, inr h)) = let k : status.ReadFault ≡ status.Done = h.2.0 in cc
+
+pub text_no_read : (c : Option (Option (List ℕ))) (s : Status) (t : List ℕ) → Then (CheckStops ⊥ c) (Reads c) (λ p. IsFound c p) s t
+    → s ≢ status.ReadFault
+text_no_read c s t h e = no_read c t (subst (λ (z : Status). Then (CheckStops ⊥ c) (Reads c) (λ p. IsFound c p) z t) e h)
+
+-- the program of a text is answered
+pub spells_found : (T : List ℕ) (s : Spelled) (p : Syntax) (r : Result Answer Memory)
+    → ((c : Option (Option (List ℕ))) → IsTold c T → IsSpelled c T s) → s ≡ Spells p
+    → IfOk r (λ x. (c : Option (Option (List ℕ))) (reads : Reads c p) → reads.bytes ≡ T → IsFound c p x.status x.text.items)
+    → IfOk r (λ x. (c : Option (Option (List ℕ))) → IsTold c T → IsTextAnswer c x)
+spells_found T s p r h e k = if_ok r _ _ (λ x answers c are.
+    let reads : (reads : Reads c p) × (reads.bytes ≡ T) = subst (λ (z : Spelled). IsSpelled c T z) e (h c are) in
+    inr (p, reads.0, answers c reads.0 reads.1)) k
 
 -- ---- from an answer to what is told
 

@@ -1,6 +1,6 @@
 //! From a file to the answer.
 
-ghost use Rattle.std.specs.Prelude.{◌≡◌, ◌≤◌, ◌∷◌, [], ℕ, List, Option, length, IfOk, IfErr};
+ghost use Rattle.std.specs.Prelude.{◌≡◌, ◌≢◌, ◌≤◌, ◌∷◌, [], ℕ, List, Option, length, IfOk, IfErr};
 ghost use Rattle.tim_base.specs.Kept.{KeepsFiles, NoCountFalls};
 ghost use Rattle.tim_base.specs.Faults.{Rose};
 ghost use Rattle.tim_base.specs.Told.{limit, IsTold};
@@ -101,6 +101,7 @@ pub(crate) fn checked<S: Shelf>(alloc: Global, shelf: &mut S, file: &str) -> Res
     ensures log { Fetches (file.now ∷ []) (S.log shelf.old) (S.log shelf.new) result }
     ensures told { IfOk result (λ x. IsCheckAnswer (λ name. Rose (S.faults shelf.old name) (S.faults shelf.new name)) (S.content shelf.old) file.now
         x.status x.text.items) }
+    ensures read { IfOk result (λ x. x.status ≢ Status.ReadFault) }
     ensures stop { IfErr result (IsStop (FileStops (Rose (S.faults shelf.old file.now) (S.faults shelf.new file.now)) (S.content shelf.old file.now)
         program)) }
 {
