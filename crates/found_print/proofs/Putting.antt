@@ -32,3 +32,13 @@ pub line_put : (x₀ x₁ x₂ x₃ x₄ x₅ brace place colon from comma end t
 line_put x₀ x₁ x₂ x₃ x₄ x₅ brace place colon from comma end to text words close e₁ e₂ e₃ e₄ e₅ =
     e₅ ∙ ap (λ l. l ++ close) (e₄ ∙ ap (λ l. l ++ words) (e₃ ∙ ap (λ l. l ++ (comma ++ (text ++ colon)))
     (e₂ ∙ ap (λ l. l ++ (from ++ ((comma ++ (end ++ colon)) ++ to))) e₁))) ∙ simp (append_assoc, append_nil)
+
+-- an object of a status, a message and two numbers, on a line
+pub counted_put : (x₁ x₂ x₃ x₄ x₅ x₆ brace status colon found comma message line one m two n close feed : List ℕ)
+    → x₁ ≡ (brace ++ (status ++ colon)) ++ (found ++ ((comma ++ (message ++ colon)) ++ line)) → x₂ ≡ x₁ ++ (comma ++ (one ++ colon)) → x₃ ≡ x₂ ++ m
+    → x₄ ≡ x₃ ++ (comma ++ (two ++ colon)) → x₅ ≡ x₄ ++ n → x₆ ≡ x₅ ++ (close ++ feed)
+    → x₆ ≡ (brace ++ ((status ++ (colon ++ (found ++ (comma ++ (message ++ (colon ++ (line ++ (comma ++ (one ++ (colon ++ (m ++ (comma ++ (two
+        ++ (colon ++ (n ++ []))))))))))))))) ++ close)) ++ feed
+counted_put x₁ x₂ x₃ x₄ x₅ x₆ brace status colon found comma message line one m two n close feed e₁ e₂ e₃ e₄ e₅ e₆ =
+    e₆ ∙ ap (λ l. l ++ (close ++ feed)) (e₅ ∙ ap (λ l. l ++ n) (e₄ ∙ ap (λ l. l ++ (comma ++ (two ++ colon))) (e₃ ∙ ap (λ l. l ++ m)
+    (e₂ ∙ ap (λ l. l ++ (comma ++ (one ++ colon))) e₁)))) ∙ simp (append_assoc, append_nil)
