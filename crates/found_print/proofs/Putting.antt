@@ -1,5 +1,5 @@
 -- Items that are put one behind another.
-use Rattle.std.proofs.Common.{◌≡◌, ℕ, ◌+◌, ◌<◌, sym, ap, ◌∙◌, List, [], ◌++◌, append_assoc, append_nil, length, get_or, drop}
+use Rattle.std.proofs.Common.{◌≡◌, ℕ, ◌+◌, ◌<◌, sym, ap, ◌∙◌, List, [], ◌++◌, append_assoc, append-nil, length, get_or, drop}
 use Rattle.std.proofs.lemmas.List.{drop_more}
 use Rattle.mit_syntax.specs.declared.token.Token.{Token}
 use Rattle.mit_syntax.specs.Program.{Syntax}
@@ -31,7 +31,7 @@ pub line_put : (x₀ x₁ x₂ x₃ x₄ x₅ brace place colon from comma end t
     → x₅ ≡ x₀ ++ (brace ++ ((place ++ (colon ++ (from ++ (comma ++ (end ++ (colon ++ (to ++ (comma ++ (text ++ (colon ++ (words ++ []))))))))))) ++ close))
 line_put x₀ x₁ x₂ x₃ x₄ x₅ brace place colon from comma end to text words close e₁ e₂ e₃ e₄ e₅ =
     e₅ ∙ ap (λ l. l ++ close) (e₄ ∙ ap (λ l. l ++ words) (e₃ ∙ ap (λ l. l ++ (comma ++ (text ++ colon)))
-    (e₂ ∙ ap (λ l. l ++ (from ++ ((comma ++ (end ++ colon)) ++ to))) e₁))) ∙ simp (append_assoc, append_nil)
+    (e₂ ∙ ap (λ l. l ++ (from ++ ((comma ++ (end ++ colon)) ++ to))) e₁))) ∙ simp (append_assoc, append-nil)
 
 -- an object of a status, a message and two numbers, on a line
 pub counted_put : (x₁ x₂ x₃ x₄ x₅ x₆ brace status colon found comma message line one m two n close feed : List ℕ)
@@ -41,4 +41,4 @@ pub counted_put : (x₁ x₂ x₃ x₄ x₅ x₆ brace status colon found comma 
         ++ (colon ++ (n ++ []))))))))))))))) ++ close)) ++ feed
 counted_put x₁ x₂ x₃ x₄ x₅ x₆ brace status colon found comma message line one m two n close feed e₁ e₂ e₃ e₄ e₅ e₆ =
     e₆ ∙ ap (λ l. l ++ (close ++ feed)) (e₅ ∙ ap (λ l. l ++ n) (e₄ ∙ ap (λ l. l ++ (comma ++ (two ++ colon))) (e₃ ∙ ap (λ l. l ++ m)
-    (e₂ ∙ ap (λ l. l ++ (comma ++ (one ++ colon))) e₁)))) ∙ simp (append_assoc, append_nil)
+    (e₂ ∙ ap (λ l. l ++ (comma ++ (one ++ colon))) e₁)))) ∙ simp (append_assoc, append-nil)
