@@ -9,6 +9,7 @@ _lab_options() {
         timeline) echo "--env --machine --budget --observer --refused" ;;
         bound | leak) echo "--observer --env --machine --budget" ;;
         steady) echo "--observer --parts --constant --whole" ;;
+        check) echo "--json" ;;
     esac
 }
 
@@ -28,7 +29,7 @@ _lab() {
     local word=${COMP_WORDS[COMP_CWORD]} before=${COMP_WORDS[COMP_CWORD - 1]} command=${COMP_WORDS[1]:-} file
     COMPREPLY=()
     if [ "$COMP_CWORD" -eq 1 ]; then
-        mapfile -t COMPREPLY < <(compgen -W "why seen timeline bound steady leak help version" -- "$word")
+        mapfile -t COMPREPLY < <(compgen -W "why seen timeline bound steady leak check help version" -- "$word")
         return
     fi
     case $before in
@@ -65,7 +66,7 @@ _lab() {
         -*) mapfile -t COMPREPLY < <(compgen -W "$(_lab_options "$command")" -- "$word") ;;
         *)
             case $command in
-                help) mapfile -t COMPREPLY < <(compgen -W "why seen timeline bound steady leak help version" -- "$word") ;;
+                help) mapfile -t COMPREPLY < <(compgen -W "why seen timeline bound steady leak check help version" -- "$word") ;;
                 version) ;;
                 *)
                     compopt -o filenames 2>/dev/null

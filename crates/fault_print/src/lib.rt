@@ -4,10 +4,10 @@
 
 pub mod faults;
 mod hints;
-mod marked;
+pub mod marked;
 mod names;
 mod near;
-mod text;
+pub mod text;
 mod token;
 mod traps;
-mod words;
+pub mod words;

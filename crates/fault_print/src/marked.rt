@@ -57,7 +57,7 @@ pub(crate) fn from_place(text: &[u8], pos: Pos) -> &[u8]
 }
 
 /// What stands before a place.
-pub(crate) fn before_place(text: &[u8], pos: Pos) -> &[u8]
+pub fn before_place(text: &[u8], pos: Pos) -> &[u8]
     ensures is { result.now ≡ before_place text.now pos }
     ensures short { length result.now ≤ length text.now }
 {

@@ -12,8 +12,9 @@ lab_usage_text =
     ++ (codes "       lab bound FILE STARTS --observer L [--env flat|part|part2] [--machine M] [--budget T]\n"
     ++ (codes "       lab steady FILE --observer L [--parts P] [--constant NAMES] [--whole]\n"
     ++ (codes "       lab leak FILE STARTS --observer L [--env flat|part|part2] [--machine M] [--budget T]\n"
+    ++ (codes "       lab check FILE --json\n"
     ++ (codes "       lab help [COMMAND]\n"
-    ++ codes "       lab version\n"))))))
+    ++ codes "       lab version\n")))))))
 
 -- what the lab tells in place of a text of the tool
 abbrev pub lab_text : Status → List ℕ → List ℕ

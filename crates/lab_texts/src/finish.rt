@@ -22,6 +22,7 @@ pub fn usage() -> &'static [u8]
        lab bound FILE STARTS --observer L [--env flat|part|part2] [--machine M] [--budget T]
        lab steady FILE --observer L [--parts P] [--constant NAMES] [--whole]
        lab leak FILE STARTS --observer L [--env flat|part|part2] [--machine M] [--budget T]
+       lab check FILE --json
        lab help [COMMAND]
        lab version
 "

@@ -11,9 +11,10 @@ use Rattle.tool_stages.specs.Accepted.{HasChecked}
 use Rattle.tool_stages.specs.Stages.{Then, Types}
 use Rattle.tool_stages.specs.Content.{Content, IsKnown, AreKnown, NoneRises}
 use Rattle.tool_stages.proofs.ChainLemmas.{first_file, second_file, reads_one}
-use Rattle.lab_words.specs.QuestionAsked.{Asked, why, seen, timeline, bound, steady, leak, help, version}
+use Rattle.lab_words.specs.QuestionAsked.{Asked, why, seen, timeline, bound, steady, leak, check, help, version}
 use Rattle.lab_bound.proofs.Single.{one_bound_in_lab}
 use Rattle.lab_leak.proofs.Single.{one_leak_in_lab}
+use Rattle.lab_check.proofs.OneFound.{one_check}
 use Rattle.lab_seen.proofs.OneSeen.{seen_once}
 use Rattle.lab_steady.specs.Answer.{parts_or}
 use Rattle.lab_steady.proofs.OneAnswer.{one_in}
@@ -107,6 +108,10 @@ answers_one_in env content before now (leak file starts observer machine budget)
     let other = second_file rises content file starts [] none known in
     let one = one_leak_in_lab content before now file starts observer env budget s u t x good.1 other.1 good.0 other.0 h k in
     one
+answers_one_in env content before now (check file) s u t x known none h k =
+    let rises = λ (name : List ℕ). Rose (before name) (now name) in
+    let good = first_file rises content file [] none known in
+    one_check rises content file s u t x good.0 good.1 h k
 answers_one_in env content before now (help command) s u t x known none h k = (h.0 ∙ sym k.0, h.1 ∙ sym k.1)
 answers_one_in env content before now version s u t x known none h k = (h.0 ∙ sym k.0, h.1 ∙ sym k.1)
 

@@ -15,11 +15,12 @@ use Rattle.tool_stages.proofs.StopLemmas.{start_rise}
 use Rattle.lab_bound.specs.Answer.{HasBound}
 use Rattle.lab_leak.specs.Answer.{Leaks}
 use Rattle.space_stage.proofs.Stops.{given_rise}
+use Rattle.lab_check.proofs.FoundLemmas.{check_rise}
 use Rattle.lab_runs.specs.Shown.{OfRuns, ShowsRuns}
 use Rattle.lab_seen.specs.Seen.{AreLines}
 use Rattle.lab_timeline.specs.Timed.{AreTimelines}
 use Rattle.lab_why.specs.Faulty.{WhyStops}
-use Rattle.lab_words.specs.QuestionAsked.{Asked, why, seen, timeline, bound, steady, leak, help, version}
+use Rattle.lab_words.specs.QuestionAsked.{Asked, why, seen, timeline, bound, steady, leak, check, help, version}
 use Rattle.lab_tool.specs.Answers.{IsAnswerIn}
 
 program_rise : (R R' : Type 0) (c : Option (Option (List ℕ))) (s : Status) (t : List ℕ) → (R → R') → ProgramStops R c s t → ProgramStops R' c s t
@@ -109,5 +110,7 @@ module _ (Rises Rises' : List ℕ → Type 0) (content : Content) (rise : (name 
   answer_rises e (steady file observer parts constant whole) s t (m, inr (costing, of, inr h), is) = (m, inr (costing, of, inr h), is)
   answer_rises e (leak file starts observer machine budget) s t h =
       (h.0, leaks_rise e budget file starts observer s h.0 h.1, h.2)
+  answer_rises e (check file) s t (inl h) = inl (check_rise (Rises file) (Rises' file) (content file) s t (rise file) h)
+  answer_rises e (check file) s t (inr h) = inr h
   answer_rises e (help command) s t h = h
   answer_rises e version s t h = h

@@ -7,8 +7,9 @@ use Rattle.tool_stages.specs.declared.envs.Environment.{Environment}
 use Rattle.lab_texts.specs.InLab.{lab_usage_text}
 use Rattle.lab_words.specs.Help.{help_text, version_text}
 use Rattle.lab_words.specs.Refusal.{IsLine}
-use Rattle.lab_words.specs.QuestionAsked.{Asked, why, seen, timeline, bound, steady, leak, help, version}
+use Rattle.lab_words.specs.QuestionAsked.{Asked, why, seen, timeline, bound, steady, leak, check, help, version}
 use Rattle.lab_bound.specs.Answer.{IsBoundAnswer}
+use Rattle.lab_check.specs.Answers.{IsCheckAnswer}
 use Rattle.lab_leak.specs.Answer.{IsLeakAnswer}
 use Rattle.lab_seen.specs.Seen.{IsSeen, SeenBefore}
 use Rattle.lab_steady.specs.Answer.{IsSteadyAnswer}
@@ -35,6 +36,7 @@ IsAnswerIn e Rises content (timeline file starts observer machine budget refused
 IsAnswerIn e Rises content (bound file starts observer machine budget) = IsBoundAnswer Rises content file starts observer e budget
 IsAnswerIn e Rises content (steady file observer parts constant whole) = IsSteadyAnswer constant Rises content file observer parts whole
 IsAnswerIn e Rises content (leak file starts observer machine budget) = IsLeakAnswer Rises content file starts observer e budget
+IsAnswerIn e Rises content (check file) = IsCheckAnswer Rises content file
 IsAnswerIn e Rises content (help command) = IsDoneWith (help_text command)
 IsAnswerIn e Rises content version = IsDoneWith version_text
 

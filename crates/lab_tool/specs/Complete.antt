@@ -15,7 +15,7 @@ use Rattle.lab_runs.specs.Shown.{CanShow}
 use Rattle.lab_steady.specs.Answer.{parts_or}
 use Rattle.lab_steady.specs.Complete.{SteadyGoes}
 use Rattle.lab_why.specs.Names.{named}
-use Rattle.lab_words.specs.QuestionAsked.{Asked, why, seen, timeline, bound, steady, leak, help, version}
+use Rattle.lab_words.specs.QuestionAsked.{Asked, why, seen, timeline, bound, steady, leak, check, help, version}
 use Rattle.lab_tool.specs.Machines.{machine_in, machine_files, GoesOn}
 
 -- the files that a question names beside that of a machine
@@ -26,6 +26,7 @@ own_files (timeline file starts observer machine budget refused) = file ∷ star
 own_files (bound file starts observer machine budget) = file ∷ starts ∷ []
 own_files (steady file observer parts constant whole) = file ∷ []
 own_files (leak file starts observer machine budget) = file ∷ starts ∷ []
+own_files (check file) = file ∷ []
 own_files (help command) = []
 own_files version = []
 
@@ -33,7 +34,7 @@ own_files version = []
 abbrev pub files_of : Asked → List (List ℕ)
 files_of a = machine_files (machine_in a) ++ own_files a
 
--- `why` is done where some labelling types the program, and tells its reason where none does
+-- `why` and `check` are done where some labelling types the program, and tell its reason where none does
 abbrev pub WhyGoes : Option (Option (List ℕ)) → Status → Type 0
 WhyGoes content status.Done = (p : Syntax) × Reads content p × IsTypable p
 WhyGoes content status.Refused = (p : Syntax) × Reads content p × (IsTypable p → ⊥)
@@ -56,6 +57,7 @@ GoesIn e content (seen file starts observer machine budget refused) s = IsDoneIf
 GoesIn e content (bound file starts observer machine budget) s = IsDoneIf (CanBound content file starts observer e budget) s
 GoesIn e content (leak file starts observer machine budget) s = IsDoneIf (CanLeak content file starts observer e budget) s
 GoesIn e content (timeline file starts observer machine budget refused) s = IsDoneIf (CanShow refused content file starts observer) s
+GoesIn e content (check file) s = WhyGoes (content file) s
 GoesIn e content (help command) s = IsDoneIf ⊤ s
 GoesIn e content version s = IsDoneIf ⊤ s
 GoesIn e content (steady file observer parts constant whole) s = SteadyGoes constant (content file) observer (parts_or parts observer) whole s

@@ -15,6 +15,7 @@ ghost use Rattle.lab_tool.specs.Worth.{AnswersAreWorth};
 
 use crate::laws::answers_are_worth;
 use lab_bound::bound::bound;
+use lab_check::check::check;
 use lab_leak::leak::leak;
 use lab_seen::seen::seen;
 use lab_steady::steady::steady;
@@ -108,6 +109,7 @@ fn obey_in<S: Shelf, W: Sink>(
             let setting = Setting { env, budget };
             leak(alloc, shelf, out, file, starts, observer, setting)
         }
+        Question::Check { file } => check(alloc, shelf, out, file),
         Question::Help { command } => finish(out, help_text(command), Status::Done),
         Question::Version => finish(out, version_text(), Status::Done),
     }

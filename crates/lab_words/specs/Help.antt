@@ -2,7 +2,7 @@
 use Rattle.std.specs.Prelude.{◌++◌, Option, Some, None, codes}
 use Rattle.clap.specs.Words.{Text}
 use Rattle.lab_words.specs.declared.verbs.Verb.{Verb}
-use Rattle.lab_words.specs.declared.verbs.Verb.TheVariants.{Why, Seen, Timeline, Bound, Steady, Leak, Help, Version}
+use Rattle.lab_words.specs.declared.verbs.Verb.TheVariants.{Why, Seen, Timeline, Bound, Steady, Leak, Check, Help, Version}
 
 -- a line for each command
 unfoldable pub commands_text : Text
@@ -13,8 +13,9 @@ commands_text =
     ++ (codes "lab bound     an audit, the sharp count\n"
     ++ (codes "lab steady    whether code is constant in time\n"
     ++ (codes "lab leak      what these runs tell, exactly\n"
+    ++ (codes "lab check     what is found, as JSON\n"
     ++ (codes "lab help      these lines, or the form of one command\n"
-    ++ codes "lab version   the number of this version\n"))))))
+    ++ codes "lab version   the number of this version\n")))))))
 
 -- The form of each command, what it is for, and a line for each of its words and options.
 unfoldable pub why_help : Text
@@ -80,6 +81,13 @@ leak_help =
     ++ (codes "  --machine   machine file: a machine in place of an environment\n"
     ++ codes "  --budget    cycles: the last cycle; 1000000 where it is left out\n"))))))
 
+unfoldable pub check_help : Text
+check_help =
+    codes "usage: lab check FILE --json\n"
+    ++ (codes "what is found, as JSON\n"
+    ++ (codes "  FILE        program\n"
+    ++ codes "  --json      one object\n"))
+
 unfoldable pub help_help : Text
 help_help =
     codes "usage: lab help [COMMAND]\n"
@@ -98,6 +106,7 @@ command_text Timeline = timeline_help
 command_text Bound = bound_help
 command_text Steady = steady_help
 command_text Leak = leak_help
+command_text Check = check_help
 command_text Help = help_help
 command_text Version = version_help
 

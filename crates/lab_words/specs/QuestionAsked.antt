@@ -1,5 +1,5 @@
 -- What the words of the lab's command line ask for.
-use Rattle.std.specs.Prelude.{ℕ, List, [], ◌∷◌, Bool, false, Option, Some, None, codes, bytes_eq, option_and_then, option_map, if◌then◌else◌}
+use Rattle.std.specs.Prelude.{ℕ, List, [], ◌∷◌, Bool, true, false, Option, Some, None, codes, bytes_eq, option_and_then, option_map, if◌then◌else◌}
 use Rattle.std.specs.Bool.{⊤}
 use Rattle.clap.specs.Words.{Row, Text, fault_of, first_of, matches_of}
 use Rattle.clap.specs.Walk.{is_empty}
@@ -7,7 +7,7 @@ use Rattle.tool_words.specs.declared.words.EnvName.{EnvName}
 use Rattle.run_limits.specs.Cycles.{IsCycles}
 use Rattle.tool_words.specs.WordsValues.{budget_given, env_named}
 use Rattle.lab_words.specs.declared.verbs.Verb.{Verb}
-use Rattle.lab_words.specs.declared.verbs.Verb.TheVariants.{Why, Seen, Timeline, Bound, Steady, Leak, Help, Version}
+use Rattle.lab_words.specs.declared.verbs.Verb.TheVariants.{Why, Seen, Timeline, Bound, Steady, Leak, Check, Help, Version}
 use Rattle.lab_words.specs.QuestionForms.{form_app}
 
 -- the machine that runs are made on: that of an environment by its name, or the one that a file with this name describes
@@ -25,6 +25,7 @@ pub data Asked : Type 0 where
   bound : Text → Text → Text → MachineAsked → ℕ → Asked
   steady : Text → Text → Option Text → Option Text → Bool → Asked
   leak : Text → Text → Text → MachineAsked → ℕ → Asked
+  check : Text → Asked
   help : Option Verb → Asked
   version : Asked
 
@@ -36,8 +37,9 @@ verb_named word =
     (if bytes_eq word (codes "bound") then Some Bound else
     (if bytes_eq word (codes "steady") then Some Steady else
     (if bytes_eq word (codes "leak") then Some Leak else
+    (if bytes_eq word (codes "check") then Some Check else
     (if bytes_eq word (codes "help") then Some Help else
-    (if bytes_eq word (codes "version") then Some Version else None)))))))
+    (if bytes_eq word (codes "version") then Some Version else None))))))))
 
 -- ---- the values that `clap` gives to the names of a form
 
@@ -81,6 +83,12 @@ abbrev pub steady_asked : Option Text → Option Text → Option Text → Option
 steady_asked (Some file) (Some observer) parts constant whole = Some (steady file observer parts constant whole)
 steady_asked _ _ _ _ _ = None
 
+-- `--json` must be there
+abbrev pub check_asked : Option Text → Bool → Option Asked
+check_asked (Some file) true = Some (check file)
+check_asked (Some file) false = None
+check_asked None json = None
+
 -- what follows `help` is a command word, or nothing
 abbrev pub help_asked : Option Text → Option Asked
 help_asked None = Some (help None)
@@ -96,6 +104,7 @@ given Bound rows = runs_given bound rows
 given Steady rows = steady_asked (first_of (codes "FILE") rows) (first_of (codes "observer") rows) (first_of (codes "parts") rows)
     (first_of (codes "constant") rows) (flag_given (codes "whole") rows)
 given Leak rows = runs_given leak rows
+given Check rows = check_asked (first_of (codes "FILE") rows) (flag_given (codes "json") rows)
 given Help rows = help_asked (first_of (codes "COMMAND") rows)
 given Version rows = Some version
 
@@ -121,5 +130,6 @@ IsInRange (timeline file starts observer machine budget refused) = IsCycles budg
 IsInRange (bound file starts observer machine budget) = IsCycles budget
 IsInRange (steady file observer parts constant whole) = ⊤
 IsInRange (leak file starts observer machine budget) = IsCycles budget
+IsInRange (check file) = ⊤
 IsInRange (help command) = ⊤
 IsInRange version = ⊤

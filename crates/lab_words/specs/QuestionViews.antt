@@ -4,7 +4,7 @@ use Rattle.lab_words.specs.declared.machine.Machine.{Machine}
 use Rattle.lab_words.specs.declared.machine.Machine.TheVariants.{Named, Described}
 use Rattle.lab_words.specs.declared.question.Question.{Question}
 use Rattle.lab_words.specs.declared.question.Question.TheVariants as question
-use Rattle.lab_words.specs.QuestionAsked.{MachineAsked, named, described, Asked, why, seen, timeline, bound, steady, leak, help, version}
+use Rattle.lab_words.specs.QuestionAsked.{MachineAsked, named, described, Asked, why, seen, timeline, bound, steady, leak, check, help, version}
 
 abbrev pub machine_of : Machine → MachineAsked
 machine_of (Named env) = named env
@@ -19,5 +19,6 @@ asked_of (question.Bound file starts observer machine budget) = bound file.now s
 asked_of (question.Steady file observer parts constant whole) =
     steady file.now observer.now (option_map (λ l. l.now) parts) (option_map (λ w. w.now) constant) whole
 asked_of (question.Leak file starts observer machine budget) = leak file.now starts.now observer.now (machine_of machine) budget
+asked_of (question.Check file) = check file.now
 asked_of (question.Help command) = help command
 asked_of question.Version = version

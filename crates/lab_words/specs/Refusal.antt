@@ -9,7 +9,7 @@ use Rattle.clap.specs.Walk.{is_empty}
 use Rattle.clap.specs.Words.{App, Row, Rule, Text, fault_of, first_of, matches_of}
 use Rattle.tool_words.specs.WordsValues.{budget_given}
 use Rattle.lab_words.specs.declared.verbs.Verb.{Verb}
-use Rattle.lab_words.specs.declared.verbs.Verb.TheVariants.{Why, Seen, Timeline, Bound, Steady, Leak, Help, Version}
+use Rattle.lab_words.specs.declared.verbs.Verb.TheVariants.{Why, Seen, Timeline, Bound, Steady, Leak, Check, Help, Version}
 use Rattle.lab_words.specs.QuestionAsked.{help_asked, machine_given, verb_named}
 use Rattle.lab_words.specs.QuestionForms.{form_app}
 
@@ -68,10 +68,10 @@ next_shown word (next ∷ rest) = if is_bare_option word && not (is_dashed next)
 
 -- where no command is asked for
 unfoldable pub no_command_line : Text
-no_command_line = codes "lab: a command is missing; there are why, seen, timeline, bound, steady, leak, help and version\n"
+no_command_line = codes "lab: a command is missing; there are why, seen, timeline, bound, steady, leak, check, help and version\n"
 
 unfoldable pub commands_there : Text
-commands_there = codes " is no command; there are why, seen, timeline, bound, steady, leak, help and version\n"
+commands_there = codes " is no command; there are why, seen, timeline, bound, steady, leak, check, help and version\n"
 
 -- of a word that is no command
 abbrev pub unknown_line : Text → Text
@@ -85,7 +85,8 @@ form_told Timeline = codes "timeline FILE STARTS [--env flat|part|part2] [--mach
 form_told Bound = codes "bound FILE STARTS --observer LABEL [--env flat|part|part2] [--machine M] [--budget 1..1099511627776]\n"
 form_told Steady = codes "steady FILE --observer LABEL [--parts LABEL] [--constant NAMES] [--whole]\n"
 form_told Leak = codes "leak FILE STARTS --observer LABEL [--env flat|part|part2] [--machine M] [--budget 1..1099511627776]\n"
-form_told Help = codes "help [why|seen|timeline|bound|steady|leak|help|version]\n"
+form_told Check = codes "check FILE --json\n"
+form_told Help = codes "help [why|seen|timeline|bound|steady|leak|check|help|version]\n"
 form_told Version = codes "version\n"
 
 abbrev pub line_begin : Text → Text
@@ -112,6 +113,7 @@ lacks name rows = not (is_some (first_of name rows))
 abbrev pub missing : Verb → List Row → Text
 missing Why rows = codes "FILE"
 missing Steady rows = if lacks (codes "FILE") rows then codes "FILE" else codes "--observer"
+missing Check rows = if lacks (codes "FILE") rows then codes "FILE" else codes "--json"
 missing Timeline rows = if lacks (codes "FILE") rows then codes "FILE" else codes "STARTS"
 missing _ rows =
     if lacks (codes "FILE") rows then codes "FILE" else (if lacks (codes "STARTS") rows then codes "STARTS" else codes "--observer")

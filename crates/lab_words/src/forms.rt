@@ -2,7 +2,7 @@
 
 ghost use Rattle.std.specs.Prelude.{◌≡◌, false, IfOk};
 ghost use Rattle.clap.specs.Words.{app_of, rule_of};
-ghost use Rattle.lab_words.specs.QuestionForms.{flag_rule, form_app, help_app, runs_app, seen_app, steady_app, timeline_app, why_app};
+ghost use Rattle.lab_words.specs.QuestionForms.{check_app, flag_rule, form_app, help_app, runs_app, seen_app, steady_app, timeline_app, why_app};
 
 use crate::verbs::Verb;
 use clap::{Arg, ArgAction, Command as Form};
@@ -66,6 +66,15 @@ fn steady_form<'a>(alloc: Global) -> Result<Form<'a>, AllocError>
         .arg(flag(alloc, "whole"))
 }
 
+/// `check FILE --json`.
+fn check_form<'a>(alloc: Global) -> Result<Form<'a>, AllocError>
+    ensures { IfOk result (λ f. app_of f ≡ check_app) }
+{
+    bare_form(alloc, "check")
+        .arg(required_word(alloc, "FILE"))?
+        .arg(flag(alloc, "json"))
+}
+
 /// `help [COMMAND]`.
 pub(crate) fn help_form<'a>(alloc: Global) -> Result<Form<'a>, AllocError>
     ensures { IfOk result (λ f. app_of f ≡ help_app) }
@@ -84,6 +93,7 @@ pub(crate) fn form<'a>(alloc: Global, verb: Verb) -> Result<Form<'a>, AllocError
         Verb::Bound => runs_form(alloc, "bound"),
         Verb::Steady => steady_form(alloc),
         Verb::Leak => runs_form(alloc, "leak"),
+        Verb::Check => check_form(alloc),
         Verb::Help => help_form(alloc),
         Verb::Version => Ok(bare_form(alloc, "version")),
     }

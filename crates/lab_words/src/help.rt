@@ -1,7 +1,7 @@
 //! The texts of `lab help` and `lab version`.
 
 ghost use Rattle.std.specs.Prelude.{◌≡◌};
-ghost use Rattle.lab_words.specs.Help.{bound_help, command_text, commands_text, help_help, help_text, leak_help, seen_help, steady_help};
+ghost use Rattle.lab_words.specs.Help.{bound_help, check_help, command_text, commands_text, help_help, help_text, leak_help, seen_help, steady_help};
 ghost use Rattle.lab_words.specs.Help.{timeline_help, version_help, version_text, why_help};
 
 use crate::verbs::Verb;
@@ -16,6 +16,7 @@ lab timeline  when mitigations begin and end
 lab bound     an audit, the sharp count
 lab steady    whether code is constant in time
 lab leak      what these runs tell, exactly
+lab check     what is found, as JSON
 lab help      these lines, or the form of one command
 lab version   the number of this version
 "
@@ -108,6 +109,17 @@ what these runs tell, exactly
 "
 }
 
+// The form of `check`.
+fn check_help() -> &'static [u8]
+    ensures { result.now ≡ check_help }
+{
+    b"usage: lab check FILE --json
+what is found, as JSON
+  FILE        program
+  --json      one object
+"
+}
+
 // The form of `help`.
 fn help_help() -> &'static [u8]
     ensures { result.now ≡ help_help }
@@ -138,6 +150,7 @@ fn command_text(verb: Verb) -> &'static [u8]
         Verb::Bound => bound_help(),
         Verb::Steady => steady_help(),
         Verb::Leak => leak_help(),
+        Verb::Check => check_help(),
         Verb::Help => help_help(),
         Verb::Version => version_help(),
     }

@@ -105,7 +105,8 @@ fn form_told(verb: Verb) -> &'static [u8]
             b"steady FILE --observer LABEL [--parts LABEL] [--constant NAMES] [--whole]\n",
         Verb::Leak =>
             b"leak FILE STARTS --observer LABEL [--env flat|part|part2] [--machine M] [--budget 1..1099511627776]\n",
-        Verb::Help => b"help [why|seen|timeline|bound|steady|leak|help|version]\n",
+        Verb::Check => b"check FILE --json\n",
+        Verb::Help => b"help [why|seen|timeline|bound|steady|leak|check|help|version]\n",
         Verb::Version => b"version\n",
     }
 }
@@ -128,6 +129,11 @@ fn missing(verb: Verb, matches: &ArgMatches<'_>) -> &'static [u8]
         } else {
             b"--observer"
         },
+        Verb::Check => if lacks(matches, "FILE") {
+            b"FILE"
+        } else {
+            b"--json"
+        },
         Verb::Timeline => if lacks(matches, "FILE") {
             b"FILE"
         } else {
@@ -147,14 +153,14 @@ fn missing(verb: Verb, matches: &ArgMatches<'_>) -> &'static [u8]
 pub(crate) fn no_command() -> &'static [u8]
     ensures { result.now ≡ no_command_line }
 {
-    b"lab: a command is missing; there are why, seen, timeline, bound, steady, leak, help and version\n"
+    b"lab: a command is missing; there are why, seen, timeline, bound, steady, leak, check, help and version\n"
 }
 
 // The end of the line on a word that is no command.
 fn commands_there() -> &'static [u8]
     ensures { result.now ≡ commands_there }
 {
-    b" is no command; there are why, seen, timeline, bound, steady, leak, help and version\n"
+    b" is no command; there are why, seen, timeline, bound, steady, leak, check, help and version\n"
 }
 
 /// The line on a word that is no command.

@@ -3,7 +3,7 @@
 ghost use Rattle.std.specs.Prelude.{◌≡◌, IfOk};
 ghost use Rattle.clap.specs.Words.{app_of};
 ghost use Rattle.tool_words.specs.WordsForms.{observed_app};
-ghost use Rattle.lab_words.specs.QuestionForms.{form_app, runs_app, seen_app, steady_app, timeline_app, why_app};
+ghost use Rattle.lab_words.specs.QuestionForms.{check_app, form_app, runs_app, seen_app, steady_app, timeline_app, why_app};
 ghost use Rattle.lab_words.specs.Refusal.{loosened};
 
 use crate::forms::{flag, help_form};
@@ -73,6 +73,15 @@ fn steady_form<'a>(alloc: Global) -> Result<Form<'a>, AllocError>
         .arg(flag(alloc, "whole"))
 }
 
+/// `check [FILE] [--json]`.
+fn check_form<'a>(alloc: Global) -> Result<Form<'a>, AllocError>
+    ensures { IfOk result (λ f. app_of f ≡ loosened check_app) }
+{
+    bare_form(alloc, "check")
+        .arg(Arg::new(alloc, "FILE"))?
+        .arg(flag(alloc, "json"))
+}
+
 /// The form of the words that follow a command word, none of which must be there.
 pub(crate) fn loose_form<'a>(alloc: Global, verb: Verb) -> Result<Form<'a>, AllocError>
     ensures { IfOk result (λ f. app_of f ≡ loosened (form_app verb)) }
@@ -84,6 +93,7 @@ pub(crate) fn loose_form<'a>(alloc: Global, verb: Verb) -> Result<Form<'a>, Allo
         Verb::Bound => runs_form(alloc, "bound"),
         Verb::Steady => steady_form(alloc),
         Verb::Leak => runs_form(alloc, "leak"),
+        Verb::Check => check_form(alloc),
         Verb::Help => help_form(alloc),
         Verb::Version => Ok(bare_form(alloc, "version")),
     }

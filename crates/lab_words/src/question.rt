@@ -63,6 +63,10 @@ pub enum Question<'a> {
         machine: Machine<'a>,
         budget: u64,
     },
+    /// `check FILE --json`
+    Check {
+        file: &'a str,
+    },
     /// `help [COMMAND]`
     Help {
         command: Option<Verb>,

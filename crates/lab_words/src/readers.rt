@@ -140,6 +140,17 @@ fn leak<'a>(matches: &ArgMatches<'a>) -> Option<Question<'a>>
     })
 }
 
+fn check<'a>(matches: &ArgMatches<'a>) -> Option<Question<'a>>
+    ensures asked { option_map asked_of result ≡ given Verb.Check (rows_of (found_of matches.now)) }
+    ensures range { IfSome result (λ q. IsInRange (asked_of q)) }
+{
+    let file = file(matches)?;
+    if flag(matches, "json") {
+        return Some(Question::Check { file });
+    }
+    None
+}
+
 fn help<'a>(matches: &ArgMatches<'a>) -> Option<Question<'a>>
     ensures asked { option_map asked_of result ≡ given Verb.Help (rows_of (found_of matches.now)) }
     ensures range { IfSome result (λ q. IsInRange (asked_of q)) }
@@ -165,6 +176,7 @@ pub(crate) fn question<'a>(verb: Verb, matches: &ArgMatches<'a>) -> Option<Quest
         Verb::Bound => bound(matches),
         Verb::Steady => steady(matches),
         Verb::Leak => leak(matches),
+        Verb::Check => check(matches),
         Verb::Help => help(matches),
         Verb::Version => Some(Question::Version),
     }

@@ -12,6 +12,7 @@ pub enum Verb {
     Bound,
     Steady,
     Leak,
+    Check,
     Help,
     Version,
 }
@@ -27,6 +28,7 @@ pub(crate) fn verb_of(word: &str) -> Option<Verb>
         "bound" => Some(Verb::Bound),
         "steady" => Some(Verb::Steady),
         "leak" => Some(Verb::Leak),
+        "check" => Some(Verb::Check),
         "help" => Some(Verb::Help),
         "version" => Some(Verb::Version),
         _ => None,

@@ -37,6 +37,7 @@ const TABLES: [&str; 30] = [
     "lab-examples.txt",
     "lab-why.txt",
     "lab-texts.txt",
+    "lab-check.txt",
     "lab-runs.txt",
     "lab-bounds.txt",
     "lab-steady.txt",

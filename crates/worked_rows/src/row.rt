@@ -29,6 +29,7 @@ const LAB_USAGE: &[u8] = b"usage: lab why FILE [--of NAME]
        lab bound FILE STARTS --observer L [--env flat|part|part2] [--machine M] [--budget T]
        lab steady FILE --observer L [--parts P] [--constant NAMES] [--whole]
        lab leak FILE STARTS --observer L [--env flat|part|part2] [--machine M] [--budget T]
+       lab check FILE --json
        lab help [COMMAND]
        lab version
 ";

@@ -57,6 +57,13 @@ returns-in-Leak-clause-answered g c =
     subst (λ (x : Question). EndsBy (g.W.Sink.taken c.args.out.now) (g.W.Sink.taken c.leak.new.out) (BeforeIn c.args.env content (asked_of x))
     (IsAnswerIn c.args.env rises content (asked_of x)) c.leak.result) (sym c.in-Leak.is) c.leak.ensures.answered
 
+pub returns-in-Check-clause-answered : goal.returns-in-Check-clause-answered
+returns-in-Check-clause-answered g c =
+    let content = g.S.Shelf.content c.args.shelf.now in
+    let rises = λ (name : List ℕ). Rose (g.S.Shelf.faults c.args.shelf.now name) (g.S.Shelf.faults c.check.new.shelf name) in
+    subst (λ (x : Question). EndsBy (g.W.Sink.taken c.args.out.now) (g.W.Sink.taken c.check.new.out) (BeforeIn c.args.env content (asked_of x))
+    (IsAnswerIn c.args.env rises content (asked_of x)) c.check.result) (sym c.in-Check.is) c.check.ensures.answered
+
 pub returns-in-Timeline-clause-answered : goal.returns-in-Timeline-clause-answered
 returns-in-Timeline-clause-answered g c =
     let content = g.S.Shelf.content c.args.shelf.now in
@@ -93,6 +100,11 @@ pub returns-in-Leak-clause-fetched : goal.returns-in-Leak-clause-fetched
 returns-in-Leak-clause-fetched g c =
     subst (λ (x : Question). HasFetched (own_files (asked_of x)) c.leak.result (g.S.Shelf.log c.args.shelf.now) (g.S.Shelf.log c.leak.new.shelf))
     (sym c.in-Leak.is) c.leak.ensures.fetched
+
+pub returns-in-Check-clause-fetched : goal.returns-in-Check-clause-fetched
+returns-in-Check-clause-fetched g c =
+    subst (λ (x : Question). HasFetched (own_files (asked_of x)) c.check.result (g.S.Shelf.log c.args.shelf.now) (g.S.Shelf.log c.check.new.shelf))
+    (sym c.in-Check.is) c.check.ensures.fetched
 
 pub returns-in-Timeline-clause-fetched : goal.returns-in-Timeline-clause-fetched
 returns-in-Timeline-clause-fetched g c =
