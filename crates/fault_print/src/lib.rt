@@ -4,9 +4,9 @@
 
 pub mod faults;
 mod hints;
-mod marked;
-mod names;
-mod near;
+pub mod marked;
+pub mod names;
+pub mod near;
 mod text;
 mod token;
 mod traps;
