@@ -5,8 +5,8 @@
 pub mod faults;
 mod hints;
 pub mod marked;
-mod names;
-mod near;
+pub mod names;
+pub mod near;
 pub mod text;
 mod token;
 mod traps;

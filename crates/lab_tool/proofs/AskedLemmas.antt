@@ -2,7 +2,7 @@
 use Rattle.std.proofs.Common.{[], inl, refl}
 use Rattle.tool_stages.specs.Content.{Content}
 use Rattle.tool_stages.specs.declared.envs.Environment.{Environment}
-use Rattle.lab_words.specs.QuestionAsked.{Asked, why, seen, timeline, bound, steady, leak, check, help, version}
+use Rattle.lab_words.specs.QuestionAsked.{Asked, why, why_starts, seen, timeline, bound, steady, leak, check, help, version}
 use Rattle.lab_tool.specs.Answers.{Before, BeforeIn}
 use Rattle.lab_tool.specs.Machines.{machine_in}
 use Rattle.lab_tool.proofs.OnMachine.{before_on}
@@ -10,6 +10,7 @@ use Rattle.lab_tool.proofs.OnMachine.{before_on}
 -- nothing may stand before the line for memory
 pub nothing_before_in : (e : Environment) (content : Content) (a : Asked) → BeforeIn e content a []
 nothing_before_in e content (why file of) = refl
+nothing_before_in e content (why_starts file starts) = refl
 nothing_before_in e content (seen file starts observer machine budget refused) = inl refl
 nothing_before_in e content (timeline file starts observer machine budget refused) = inl refl
 nothing_before_in e content (bound file starts observer machine budget) = refl

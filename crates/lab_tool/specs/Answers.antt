@@ -7,7 +7,7 @@ use Rattle.tool_stages.specs.declared.envs.Environment.{Environment}
 use Rattle.lab_texts.specs.InLab.{lab_usage_text}
 use Rattle.lab_words.specs.Help.{help_text, version_text}
 use Rattle.lab_words.specs.Refusal.{IsLine}
-use Rattle.lab_words.specs.QuestionAsked.{Asked, why, seen, timeline, bound, steady, leak, check, help, version}
+use Rattle.lab_words.specs.QuestionAsked.{Asked, why, why_starts, seen, timeline, bound, steady, leak, check, help, version}
 use Rattle.lab_bound.specs.Answer.{IsBoundAnswer}
 use Rattle.lab_check.specs.Answers.{IsCheckAnswer}
 use Rattle.lab_leak.specs.Answer.{IsLeakAnswer}
@@ -16,6 +16,7 @@ use Rattle.lab_steady.specs.Answer.{IsSteadyAnswer}
 use Rattle.lab_timeline.specs.Timed.{TellsTimelines, TimelinesBefore}
 use Rattle.lab_why.specs.Answers.{IsWhyAnswer}
 use Rattle.lab_why.specs.Origins.{IsOriginAnswer}
+use Rattle.lab_why.specs.Starts.{IsStartsAnswer}
 use Rattle.lab_tool.specs.Machines.{machine_in, OnMachine, BeforeOn}
 
 -- words that ask for nothing: a line on the first that can't be taken, and the usage text
@@ -31,6 +32,7 @@ IsDoneWith text s t = (s ≡ status.Done) × (t ≡ text)
 abbrev pub IsAnswerIn : Environment → (List ℕ → Type 0) → Content → Asked → Status → List ℕ → Type 0
 IsAnswerIn e Rises content (why file None) = IsWhyAnswer Rises content file
 IsAnswerIn e Rises content (why file (Some name)) = IsOriginAnswer Rises content file name
+IsAnswerIn e Rises content (why_starts file starts) = IsStartsAnswer Rises content file starts
 IsAnswerIn e Rises content (seen file starts observer machine budget refused) = IsSeen Rises content file starts observer e budget refused
 IsAnswerIn e Rises content (timeline file starts observer machine budget refused) = TellsTimelines Rises content file starts observer e budget refused
 IsAnswerIn e Rises content (bound file starts observer machine budget) = IsBoundAnswer Rises content file starts observer e budget

@@ -3,10 +3,11 @@ use Rattle.std.specs.Prelude.{◌≡◌, ℕ, List, [], ◌∷◌, ◌++◌, Opt
 use Rattle.std.specs.Bool.{⊤}
 use Rattle.flow_path.specs.declared.step.Spot.{Spot}
 use Rattle.mit_syntax.specs.Program.{Syntax}
+use Rattle.start_file.specs.Starts.{StartValue}
 use Rattle.tool_texts.specs.declared.status.Status.{Status}
 use Rattle.tool_texts.specs.declared.status.Status.TheVariants as status
 use Rattle.tool_stages.specs.declared.envs.Environment.{Environment}
-use Rattle.tool_stages.specs.Stages.{Reads}
+use Rattle.tool_stages.specs.Stages.{Reads, StartsAre, HasStartFault}
 use Rattle.tool_stages.specs.Content.{Content, AreKnown}
 use Rattle.tool_stages.specs.Goes.{IsTypable}
 use Rattle.lab_bound.specs.Complete.{CanBound}
@@ -15,12 +16,13 @@ use Rattle.lab_runs.specs.Shown.{CanShow}
 use Rattle.lab_steady.specs.Answer.{parts_or}
 use Rattle.lab_steady.specs.Complete.{SteadyGoes}
 use Rattle.lab_why.specs.Names.{named}
-use Rattle.lab_words.specs.QuestionAsked.{Asked, why, seen, timeline, bound, steady, leak, check, help, version}
+use Rattle.lab_words.specs.QuestionAsked.{Asked, why, why_starts, seen, timeline, bound, steady, leak, check, help, version}
 use Rattle.lab_tool.specs.Machines.{machine_in, machine_files, GoesOn}
 
 -- the files that a question names beside that of a machine
 abbrev pub own_files : Asked → List (List ℕ)
 own_files (why file of) = file ∷ []
+own_files (why_starts file starts) = file ∷ starts ∷ []
 own_files (seen file starts observer machine budget refused) = file ∷ starts ∷ []
 own_files (timeline file starts observer machine budget refused) = file ∷ starts ∷ []
 own_files (bound file starts observer machine budget) = file ∷ starts ∷ []
@@ -40,6 +42,14 @@ WhyGoes content status.Done = (p : Syntax) × Reads content p × IsTypable p
 WhyGoes content status.Refused = (p : Syntax) × Reads content p × (IsTypable p → ⊥)
 WhyGoes content _ = ⊥
 
+-- With starts it is done where some labelling types the program and the file gives starts, tells what is wrong with them where the file is
+-- refused, and tells its reason where none types it.
+abbrev pub WhyStartsGoes : Option (Option (List ℕ)) → Option (Option (List ℕ)) → Status → Type 0
+WhyStartsGoes content held status.Done = (p : Syntax) × Reads content p × IsTypable p × (ss : List StartValue) × StartsAre held p ss
+WhyStartsGoes content held status.Starts = (p : Syntax) × Reads content p × IsTypable p × (line : List ℕ) × HasStartFault held p line
+WhyStartsGoes content held status.Refused = (p : Syntax) × Reads content p × (IsTypable p → ⊥)
+WhyStartsGoes content held _ = ⊥
+
 -- what is told of runs is done where nothing stops before them
 abbrev pub IsDoneIf : Type 0 → Status → Type 0
 IsDoneIf Can status.Done = Can
@@ -53,6 +63,7 @@ Names content w = (p : Syntax) × Reads content p × (spot : Spot) × (named p w
 abbrev pub GoesIn : Environment → Content → Asked → Status → Type 0
 GoesIn e content (why file None) s = WhyGoes (content file) s
 GoesIn e content (why file (Some name)) s = IsDoneIf (Names (content file) name) s
+GoesIn e content (why_starts file starts) s = WhyStartsGoes (content file) (content starts) s
 GoesIn e content (seen file starts observer machine budget refused) s = IsDoneIf (CanShow refused content file starts (Some observer)) s
 GoesIn e content (bound file starts observer machine budget) s = IsDoneIf (CanBound content file starts observer e budget) s
 GoesIn e content (leak file starts observer machine budget) s = IsDoneIf (CanLeak content file starts observer e budget) s

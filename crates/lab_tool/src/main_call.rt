@@ -22,6 +22,7 @@ use lab_steady::steady::steady;
 use lab_texts::finish::{stop, usage};
 use lab_timeline::timeline::timeline;
 use lab_why::of::why_of;
+use lab_why::starts::why_starts;
 use lab_why::why::why;
 use lab_words::help::{help_text, version_text};
 use lab_words::machine::Machine;
@@ -60,6 +61,7 @@ fn obey_in<S: Shelf, W: Sink>(
             None => why(alloc, shelf, out, file),
             Some(name) => why_of(alloc, shelf, out, file, name),
         },
+        Question::WhyStarts { file, starts } => why_starts(alloc, shelf, out, file, starts),
         Question::Seen {
             file,
             starts,

@@ -9,5 +9,6 @@ mod names;
 pub mod of;
 pub mod origins;
 mod refused;
+pub mod starts;
 pub mod source;
 pub mod why;

@@ -20,10 +20,11 @@ commands_text =
 -- The form of each command, what it is for, and a line for each of its words and options.
 unfoldable pub why_help : Text
 why_help =
-    codes "usage: lab why FILE [--of NAME]\n"
+    codes "usage: lab why FILE [STARTS] [--of NAME]\n"
     ++ (codes "reasons for a refusal or a label\n"
     ++ (codes "  FILE        program\n"
-    ++ codes "  --of        name: of one name\n"))
+    ++ (codes "  STARTS      starts\n"
+    ++ codes "  --of        name: of one name\n")))
 
 unfoldable pub seen_help : Text
 seen_help =

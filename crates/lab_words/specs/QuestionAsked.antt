@@ -20,6 +20,7 @@ pub data MachineAsked : Type 0 where
 -- of `help` the command, if there is one.
 pub data Asked : Type 0 where
   why : Text → Option Text → Asked
+  why_starts : Text → Text → Asked
   seen : Text → Text → Text → MachineAsked → ℕ → Bool → Asked
   timeline : Text → Text → Option Text → MachineAsked → ℕ → Bool → Asked
   bound : Text → Text → Text → MachineAsked → ℕ → Asked
@@ -43,9 +44,11 @@ verb_named word =
 
 -- ---- the values that `clap` gives to the names of a form
 
-abbrev pub why_asked : Option Text → Option Text → Option Asked
-why_asked (Some file) of = Some (why file of)
-why_asked None of = None
+-- `--of` stands in place of STARTS
+abbrev pub why_asked : Option Text → Option Text → Option Text → Option Asked
+why_asked (Some file) None of = Some (why file of)
+why_asked (Some file) (Some starts) None = Some (why_starts file starts)
+why_asked _ _ _ = None
 
 -- `--machine` stands in place of `--env`: both name no machine, and none of both names that of an environment
 abbrev pub machine_named : Option Text → Option Text → Option MachineAsked
@@ -95,7 +98,7 @@ help_asked None = Some (help None)
 help_asked (Some word) = option_map (λ verb. help (Some verb)) (verb_named word)
 
 abbrev pub given : Verb → List Row → Option Asked
-given Why rows = why_asked (first_of (codes "FILE") rows) (first_of (codes "of") rows)
+given Why rows = why_asked (first_of (codes "FILE") rows) (first_of (codes "STARTS") rows) (first_of (codes "of") rows)
 given Seen rows = runs_given (λ file starts observer machine budget.
     seen file starts observer machine budget (flag_given (codes "refused") rows)) rows
 given Timeline rows = timeline_asked (first_of (codes "FILE") rows) (first_of (codes "STARTS") rows) (machine_given rows)
@@ -125,6 +128,7 @@ question_of (word ∷ words) = option_and_then (λ verb. asked_after verb words)
 -- the budget of a question is in range
 abbrev pub IsInRange : Asked → Type 0
 IsInRange (why file of) = ⊤
+IsInRange (why_starts file starts) = ⊤
 IsInRange (seen file starts observer machine budget refused) = IsCycles budget
 IsInRange (timeline file starts observer machine budget refused) = IsCycles budget
 IsInRange (bound file starts observer machine budget) = IsCycles budget

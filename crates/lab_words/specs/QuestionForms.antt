@@ -6,9 +6,10 @@ use Rattle.tool_words.specs.WordsForms.{bare, observed_app, option_rule, require
 use Rattle.lab_words.specs.declared.verbs.Verb.{Verb}
 use Rattle.lab_words.specs.declared.verbs.Verb.TheVariants.{Why, Seen, Timeline, Bound, Steady, Leak, Check, Help, Version}
 
--- FILE [--of NAME]
+-- FILE [STARTS] [--of NAME]
 abbrev pub why_app : App
-why_app = with_rule (with_rule (bare (new_app (codes "why"))) (required_word_rule (codes "FILE"))) (option_rule (codes "of"))
+why_app = with_rule (with_rule (with_rule (bare (new_app (codes "why"))) (required_word_rule (codes "FILE"))) (new_rule (codes "STARTS")))
+    (option_rule (codes "of"))
 
 -- `--name`
 abbrev pub flag_rule : Text → Rule

@@ -4,7 +4,7 @@ use Rattle.lab_words.specs.declared.machine.Machine.{Machine}
 use Rattle.lab_words.specs.declared.machine.Machine.TheVariants.{Named, Described}
 use Rattle.lab_words.specs.declared.question.Question.{Question}
 use Rattle.lab_words.specs.declared.question.Question.TheVariants as question
-use Rattle.lab_words.specs.QuestionAsked.{MachineAsked, named, described, Asked, why, seen, timeline, bound, steady, leak, check, help, version}
+use Rattle.lab_words.specs.QuestionAsked.{MachineAsked, named, described, Asked, why, why_starts, seen, timeline, bound, steady, leak, check, help, version}
 
 abbrev pub machine_of : Machine → MachineAsked
 machine_of (Named env) = named env
@@ -12,6 +12,7 @@ machine_of (Described file) = described file.now
 
 abbrev pub asked_of : Question → Asked
 asked_of (question.Why file of) = why file.now (option_map (λ n. n.now) of)
+asked_of (question.WhyStarts file starts) = why_starts file.now starts.now
 asked_of (question.Seen file starts observer machine budget refused) = seen file.now starts.now observer.now (machine_of machine) budget refused
 asked_of (question.Timeline file starts observer machine budget refused) =
     timeline file.now starts.now (option_map (λ l. l.now) observer) (machine_of machine) budget refused

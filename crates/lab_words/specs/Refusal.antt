@@ -15,6 +15,10 @@ use Rattle.lab_words.specs.QuestionForms.{form_app}
 
 -- ---- the first word that can't be taken
 
+-- no value has this name
+abbrev pub lacks : Text → List Row → Bool
+lacks name rows = not (is_some (first_of name rows))
+
 -- a form of which no word must be there
 abbrev pub optional : Rule → Rule
 optional r = record r { required = false }
@@ -22,9 +26,14 @@ optional r = record r { required = false }
 abbrev pub loosened : App → App
 loosened = on_top (λ s. record s { rules = map optional s.rules })
 
+-- no name stands beside starts
+abbrev pub is_of_alone : List Row → Bool
+is_of_alone rows = lacks (codes "of") rows || lacks (codes "STARTS") rows
+
 -- the values that words give are of their form
 abbrev pub has_values : List Row → Bool
-has_values rows = is_some (machine_given rows) && (is_some (budget_given rows) && is_some (help_asked (first_of (codes "COMMAND") rows)))
+has_values rows =
+    is_some (machine_given rows) && (is_some (budget_given rows) && (is_some (help_asked (first_of (codes "COMMAND") rows)) && is_of_alone rows))
 
 -- the words after a command word can be taken, if some more follow
 abbrev pub is_taken : Verb → List Text → Bool
@@ -79,7 +88,7 @@ unknown_line command = codes "lab: " ++ (shown command ++ commands_there)
 
 -- the form of each command, with what its values may be
 abbrev pub form_told : Verb → Text
-form_told Why = codes "why FILE [--of NAME]\n"
+form_told Why = codes "why FILE [STARTS] [--of NAME]\n"
 form_told Seen = codes "seen FILE STARTS --observer LABEL [--env flat|part|part2] [--machine M] [--budget 1..1099511627776] [--refused]\n"
 form_told Timeline = codes "timeline FILE STARTS [--env flat|part|part2] [--machine M] [--budget 1..1099511627776] [--observer LABEL] [--refused]\n"
 form_told Bound = codes "bound FILE STARTS --observer LABEL [--env flat|part|part2] [--machine M] [--budget 1..1099511627776]\n"
@@ -105,9 +114,6 @@ abbrev pub wrong_line : Verb → Text → Text → List Text → Text
 wrong_line verb command word rest =
     line_begin command ++ (shown word ++ (gap (next_shown word rest) ++ (told (next_shown word rest)
     ++ (codes " can't stand here; the form is " ++ form_told verb))))
-
-abbrev pub lacks : Text → List Row → Bool
-lacks name rows = not (is_some (first_of name rows))
 
 -- the word that must be there and is not, where one is not
 abbrev pub missing : Verb → List Row → Text

@@ -9,12 +9,13 @@ use clap::{Arg, ArgAction, Command as Form};
 use std::alloc::{AllocError, Global};
 use tool_words::forms::{bare_form, observed_form, option, required_option, required_word};
 
-/// `why FILE [--of NAME]`.
+/// `why FILE [STARTS] [--of NAME]`.
 fn why_form<'a>(alloc: Global) -> Result<Form<'a>, AllocError>
     ensures { IfOk result (λ f. app_of f ≡ why_app) }
 {
     bare_form(alloc, "why")
         .arg(required_word(alloc, "FILE"))?
+        .arg(Arg::new(alloc, "STARTS"))?
         .arg(option(alloc, "of"))
 }
 

@@ -26,9 +26,10 @@ lab version   the number of this version
 fn why_help() -> &'static [u8]
     ensures { result.now ≡ why_help }
 {
-    b"usage: lab why FILE [--of NAME]
+    b"usage: lab why FILE [STARTS] [--of NAME]
 reasons for a refusal or a label
   FILE        program
+  STARTS      starts
   --of        name: of one name
 "
 }

@@ -94,7 +94,7 @@ fn form_told(verb: Verb) -> &'static [u8]
     ensures { result.now ≡ form_told verb }
 {
     match verb {
-        Verb::Why => b"why FILE [--of NAME]\n",
+        Verb::Why => b"why FILE [STARTS] [--of NAME]\n",
         Verb::Seen =>
             b"seen FILE STARTS --observer LABEL [--env flat|part|part2] [--machine M] [--budget 1..1099511627776] [--refused]\n",
         Verb::Timeline =>
@@ -112,7 +112,7 @@ fn form_told(verb: Verb) -> &'static [u8]
 }
 
 // Whether the words lack a word or an option.
-fn lacks(matches: &ArgMatches<'_>, name: &str) -> bool
+pub(crate) fn lacks(matches: &ArgMatches<'_>, name: &str) -> bool
     ensures { result ≡ lacks name.now (rows_of (found_of matches.now)) }
 {
     text(matches, name).is_none()

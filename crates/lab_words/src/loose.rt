@@ -12,12 +12,13 @@ use clap::{Arg, Command as Form};
 use std::alloc::{AllocError, Global};
 use tool_words::forms::{bare_form, option};
 
-/// `why [FILE] [--of NAME]`.
+/// `why [FILE] [STARTS] [--of NAME]`.
 fn why_form<'a>(alloc: Global) -> Result<Form<'a>, AllocError>
     ensures { IfOk result (λ f. app_of f ≡ loosened why_app) }
 {
     bare_form(alloc, "why")
         .arg(Arg::new(alloc, "FILE"))?
+        .arg(Arg::new(alloc, "STARTS"))?
         .arg(option(alloc, "of"))
 }
 

@@ -21,6 +21,11 @@ pub enum Question<'a> {
         file: &'a str,
         of: Option<&'a str>,
     },
+    /// `why FILE STARTS`
+    WhyStarts {
+        file: &'a str,
+        starts: &'a str,
+    },
     /// `seen FILE STARTS --observer L [--env E | --machine M] [--budget T] [--refused]`, `budget` from 1 to `MAX_CYCLES`
     Seen {
         file: &'a str,

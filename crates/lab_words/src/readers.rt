@@ -17,7 +17,13 @@ fn why<'a>(matches: &ArgMatches<'a>) -> Option<Question<'a>>
 {
     let file = file(matches)?;
     let of = text(matches, "of");
-    Some(Question::Why { file, of })
+    match text(matches, "STARTS") {
+        None => Some(Question::Why { file, of }),
+        Some(starts) => match of {
+            None => Some(Question::WhyStarts { file, starts }),
+            Some(_) => None,
+        },
+    }
 }
 
 /// The machine that the words name, if they name one and no more.
