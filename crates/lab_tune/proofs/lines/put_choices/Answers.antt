@@ -1,12 +1,12 @@
-use Rattle.std.proofs.Common.{ap, ◌∙◌, ◌++◌, ◌≤◌, arith}
+use Rattle.std.proofs.Common.{refl, ap, ◌∙◌, ◌++◌, ◌≤◌, arith}
 use Rattle.lab_tune.specs.Text.{choice_lines}
 use Rattle.lab_tune.proofs.Choices.{next_choice, all_choices}
 use Rattle.lab_tune.proofs.lines.put_choices.Goals as goal
 
 pub loop-interval-preserved : goal.loop-interval-preserved
 loop-interval-preserved c =
-    next_choice c.args.runs c.args.intervals.now c.loop-interval.interval-index c.interval-item.result c.loop-interval.text.items c.put.new.text.items _
-    c.loop-interval-test.true c.interval-item.is (c.in_ok-put.ensures ∙ ap (λ z. c.loop-interval.text.items ++ z) c.choice.ensures)
+    next_choice c.args.runs c.args.intervals.now c.loop-interval.interval-index _ c.loop-interval.text.items c.put.new.text.items _
+    c.loop-interval-test.true refl (c.in_ok-put.ensures ∙ ap (λ z. c.loop-interval.text.items ++ z) c.choice.ensures)
     c.loop-interval.invariant
 
 pub returns : goal.returns
