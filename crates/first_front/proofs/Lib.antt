@@ -1,0 +1,6 @@
+pub mod Summing
+pub mod Constant
+pub mod Lists
+pub mod Members
+pub mod Covering
+pub mod Fronting
