@@ -90,8 +90,12 @@ def rows_of(table):
     return rows
 
 
-def read_rows(path):
-    return rows_of(pathlib.Path(path).read_text(encoding="ascii"))
+def read_rows(table):
+    """The rows of a file, or of a table of worked_rows by its name."""
+    path = pathlib.Path(table)
+    if not path.is_file():
+        path = TOP / "crates/worked_rows/data" / f"{table}.txt"
+    return rows_of(path.read_text(encoding="ascii"))
 
 
 def tables():
