@@ -9,6 +9,8 @@ _lab_options() {
         timeline) echo "--env --machine --budget --observer --refused" ;;
         bound | leak) echo "--observer --env --machine --budget" ;;
         steady) echo "--observer --parts --constant --whole" ;;
+        tune) echo "--observer --env --machine --budget --of" ;;
+        check) echo "--json" ;;
     esac
 }
 
@@ -28,9 +30,10 @@ _lab() {
     local word=${COMP_WORDS[COMP_CWORD]} before=${COMP_WORDS[COMP_CWORD - 1]} command=${COMP_WORDS[1]:-} file
     COMPREPLY=()
     if [ "$COMP_CWORD" -eq 1 ]; then
-        mapfile -t COMPREPLY < <(compgen -W "why seen timeline bound steady leak help version" -- "$word")
+        mapfile -t COMPREPLY < <(compgen -W "why seen timeline bound steady leak tune check help version" -- "$word")
         return
     fi
+    case $command$before in tune--of) return ;; esac
     case $before in
         --of)
             for file in "${COMP_WORDS[@]}"; do
@@ -65,7 +68,7 @@ _lab() {
         -*) mapfile -t COMPREPLY < <(compgen -W "$(_lab_options "$command")" -- "$word") ;;
         *)
             case $command in
-                help) mapfile -t COMPREPLY < <(compgen -W "why seen timeline bound steady leak help version" -- "$word") ;;
+                help) mapfile -t COMPREPLY < <(compgen -W "why seen timeline bound steady leak tune check help version" -- "$word") ;;
                 version) ;;
                 *)
                     compopt -o filenames 2>/dev/null

@@ -131,6 +131,12 @@ export function readWhy(text) {
   return { refusal, steps: steps.map((step) => ({ place: place(step[1]), text: step[2] })) };
 }
 
+/** The label of a name, as the lab's `why --of` tells it; null where it does not. */
+export function readLabel(text, name) {
+  const told = /^(\S+) is (\S+)$/.exec(lines(text)[0] ?? '');
+  return told && told[1] === name ? told[2] : null;
+}
+
 /** What the lab's `why` tells of a text that is no program, behind the first line and the marked one: [{says, words}],
     where `says` is `found`, `expected`, `labels`, `nearest`, or empty for a sentence. */
 export function readFault(text) {
@@ -183,6 +189,26 @@ export function readLeak(text) {
   if (!lines(text).every((line) => leakLine(line, found))) return null;
   const isWhole = found.minEntropy && found.shannon && found.right && found.guesses;
   return isWhole && found.classes.length === found.distinct ? found : null;
+}
+
+const TUNE_HEAD = /^(observer \S+|budget \d+|machine (partitioned|shared)|no bound: .*)$/;
+
+/** The lab's `tune`: the mitigate's number, how many runs there are, and the choices in ascending order, each with the
+    last first prediction with which no miss count changes, how many things it tells, and the mean and the last end of
+    its runs; or null. */
+export function readTune(text) {
+  const found = { mark: null, runs: null, choices: [] };
+  for (const line of lines(text)) {
+    const mark = /^tune #(\d+) alone, the others as written$/.exec(line), runs = /^runs (\d+)$/.exec(line);
+    const choice = /^first (\d+) to (\d+) told (\d+) mean (\d+) greatest (\d+)$/.exec(line);
+    if (mark) found.mark = Number(mark[1]);
+    else if (runs) found.runs = Number(runs[1]);
+    else if (choice) {
+      const [first, last, told, mean, greatest] = numbers(choice);
+      found.choices.push({ first, last, told, mean, greatest });
+    } else if (!TUNE_HEAD.test(line)) return null;
+  }
+  return found.mark === null || found.runs === null ? null : found;
 }
 
 /** The lab's `steady`: a yes with how much the observer sees, a no with its reason, place and variable, or neither. */

@@ -21,8 +21,8 @@ import { drawStarts } from './starts_part.js';
 import { $, answeredOf, calls, faults, shown, state } from './state.js';
 import { drawSteady } from './steady_part.js';
 import {
-  auditOf, chainOf, codeOf, comparedOf, completedBy, faultOf, leakOf, machineFaultOf, mendOf, refusedRunsOf, runsOf,
-  sharpOf, spaceOf, steadyOf, verdictOf,
+  auditOf, chainOf, codeOf, comparedOf, completedBy, faultOf, leakOf, machineFaultOf, mendOf, refusedCodeOf,
+  refusedRunsOf, runsOf, sharpOf, spaceOf, steadyOf, verdictOf,
 } from './study.js';
 import { canSweep, drawSweep, stopSweep, sweep } from './sweep_part.js';
 import { drawTime } from './time_part.js';
@@ -34,7 +34,7 @@ const PAUSE = 250; // milliseconds of rest before a change is answered
 const QUICK_SWEEP = 4000; // milliseconds that a sweep may take to begin by itself
 const QUICK_BOTH = 3000; // milliseconds that runs may take to be made on both machines by themselves
 const MOST_FIRSTS = 100; // classes of a space whose first starts are drawn
-const SWEEP_CALLS = 90; // how often as long as the runs a sweep takes, about
+const SWEEP_CALLS = 90, TUNE_CALLS = 8; // how often as long as the runs a sweep takes, about, and `tune`
 const SHOWN_AFTER = 400, FOLLOWED_AFTER = 1000; // milliseconds until work is told, and until its runs are followed
 
 // What is worked out of an accepted program, in order.
@@ -88,7 +88,7 @@ export async function ask() {
     drawSteady();
     drawStarts();
     drawCommands();
-    if (wantsCode()) await askCode(asked, isOld);
+    if (wantsCode() && verdict.kind !== 'refused') await askCode(asked, isOld);
     if (isOld()) return;
     drawMachine();
     if (isAccepted && !faults.budget && !faults.cell && !faults.machine) await askRuns(asked, isOld);
@@ -127,12 +127,15 @@ export async function askSteady() {
   }
 }
 
+// Of a refused program the tool compiles none, and the page makes it by the least labels.
 async function askCode(asked, isOld) {
-  const { status, text } = await codeOf(calls.tool, asked);
+  if (isFresh('code', answeredOf.code, asked)) return;
+  const { tool } = calls, { status, text } = await codeOf(tool, asked), isCompiled = status === 0;
+  const own = !isCompiled && shown.verdict.kind === 'refused' ? await refusedCodeOf(tool, asked) : null;
   if (isOld()) return;
-  shown.code = status === 0 ? readCode(text) : null;
+  Object.assign(shown, { code: isCompiled ? readCode(text) : own, isOwnCode: own !== null, codeText: text });
   answeredOf.code = asked;
-  drawCode(text);
+  drawCode();
 }
 
 async function askRuns(asked, isOld) {
@@ -173,7 +176,7 @@ async function askRuns(asked, isOld) {
   if (took < QUICK_BOTH || isFresh('compared', answeredOf.compared, asked)) await askBoth(asked, isOld);
   if (isOld()) return;
   endFollowing();
-  if (!hasPoints && canSweep() && took * SWEEP_CALLS < QUICK_SWEEP) sweep();
+  if (!hasPoints && canSweep() && took * (shown.hasTune ? TUNE_CALLS : SWEEP_CALLS) < QUICK_SWEEP) sweep();
 }
 
 // The runs of the first starts of the classes of a space, each of its class.
@@ -205,7 +208,7 @@ function noteRuns({ runs, mitigates, isAll, listed: rows = null }, asked) {
 }
 
 function forgetPoints() {
-  Object.assign(shown, { points: [], isSwept: false });
+  Object.assign(shown, { points: [], isSwept: false, tuned: null });
   delete answeredOf.points;
 }
 
@@ -252,7 +255,6 @@ async function askRefusedRuns(asked, isOld) {
   if (isOld() || !told) return;
   noteRuns(told, asked);
   drawStarts();
-  drawCosts();
 }
 
 // A refused program, and one that is none: what was answered before stays, as of an earlier program.
@@ -260,7 +262,9 @@ async function askMend(asked, isOld) {
   const { kind } = shown.verdict, isFault = faults.budget || faults.cell || faults.machine;
   setProgress(kind === 'accepted' ? 'fault' : kind === 'refused' ? 'refused' : 'syntax');
   if (kind === 'refused' && !isFault) await askRefusedRuns(asked, isOld);
+  if (!isOld() && kind === 'refused' && wantsCode()) await askCode(asked, isOld);
   if (isOld()) return;
+  drawCosts();
   drawSentence();
   drawTime();
   drawSweep();

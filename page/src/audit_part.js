@@ -12,6 +12,7 @@ export function drawAudit() {
   const { audit, labels } = shown;
   $('audit').innerHTML = audit?.report || audit?.space ? auditBoxes(audit) : '';
   $('audit-text').innerHTML = audit ? auditWords(audit, labels, answeredOf.audit ?? state) : '';
+  $('words').classList.toggle('wordless', !audit);
   $('finding').classList.toggle('leaks', isLeaking(audit));
   drawSentence();
 }

@@ -1,39 +1,29 @@
 // The compiled code beside the program: which lines come from which command.
 
-import { escaped } from './colours.js';
-import { lineFinder, owners, readProgram } from './language.js';
-import { labelText } from './marks.js';
+import { codeText } from './code_text.js';
+import { readingNow, runNumber } from './reading_part.js';
 import { paidText } from './reading_text.js';
 import { theEditor } from './program_part.js';
 import { $, answeredOf, shown } from './state.js';
 
-const MOST_LINES = 20000; // instructions that are shown
+let isDrawn = false; // whether there is code in the box
 
-/** The instructions as HTML, each with the line of the program's text that its command begins on; 0
-    where it has none. */
-export function codeText(code, text, labels) {
-  const program = readProgram(text), owned = program ? owners(program) : [], lineOf = lineFinder(text);
-  const rows = code.slice(0, MOST_LINES).map((instruction, k) => {
-    const line = owned[k] ? lineOf(owned[k].at) : 0,
-      marks = instruction.labels.map((name) => labelText(name, labels)).join(', ');
-    const words = `<span class="op">${instruction.name}</span> ${escaped(instruction.operand)}`;
-    return `<span class="line"`
-      + ` data-line="${line}"><span class="n">${instruction.number}</span>`
-      + `<span class="to">${words}</span>[${marks}]<span class="paid"></span></span>`;
-  });
-  return rows.join('');
-}
+// Whether there is code to show: the page's own where the run that is looked at is read by it as the tool tells it.
+const hasCode = () => shown.code !== null && (!shown.isOwnCode || Boolean(readingNow().reading));
 
 /** The code, or the text that stands in place of it. */
-export function drawCode(text) {
+export function drawCode() {
   const box = $('code');
-  if (shown.code) box.innerHTML = codeText(shown.code, answeredOf.code.program, shown.labels);
-  else box.textContent = text;
+  isDrawn = hasCode();
+  if (isDrawn) box.innerHTML = codeText(shown.code, answeredOf.code.program, shown.labels);
+  else box.textContent = shown.codeText;
+  $('code-says').hidden = !(isDrawn && shown.isOwnCode);
   light(theEditor().caretLine, false);
 }
 
 /** Writes what each instruction cost in a run beside it, or nothing where that is null. */
 export function drawPaid(costs) {
+  if (shown.isOwnCode && runNumber() !== null && hasCode() !== isDrawn) drawCode();
   $('code').querySelectorAll('.paid').forEach((place, k) => {
     const text = costs?.[k] ? paidText(costs[k]) : '';
     if (place.textContent !== text) place.textContent = text;
@@ -55,7 +45,7 @@ function scrollWithin(box, part) {
 }
 
 function light(line, isFromCode) {
-  if ($('code-part').hidden || !shown.code) return;
+  if ($('code-part').hidden || !isDrawn) return;
   const box = $('code');
   let first = null;
   for (const instruction of box.querySelectorAll('.line')) {
@@ -95,7 +85,7 @@ export function listenCode(ask) {
 
 function onKey(event) {
   const by = { ArrowDown: 1, ArrowUp: -1 }[event.key];
-  if (!by || !shown.code) return;
+  if (!by || !isDrawn) return;
   event.preventDefault();
   const lines = [...$('code').querySelectorAll('.line')], lit = lines.map((line) => line.classList.contains('lit'));
   const from = by > 0 ? lit.lastIndexOf(true) : lit.indexOf(true);

@@ -22,11 +22,14 @@ export const WORDS = {
   infer: () => ['infer', PROGRAM],
   compile: () => ['compile', PROGRAM],
   why: () => ['why', PROGRAM],
+  whyOf: ({ name }) => ['why', PROGRAM, '--of', name],
   audit: (asked) => onStarts('audit', asked),
   cut: (asked) => onStarts('cut', asked),
   bound: (asked) => onStarts('bound', asked),
   seen: (asked) => onStarts('seen', asked),
   leak: (asked) => onStarts('leak', asked),
+  tune: (asked) => [...onStarts('tune', asked), '--of', `#${asked.mark}`],
+  helpTune: () => ['help', 'tune'],
   steady: (asked) => ['steady', PROGRAM, ...observer(asked)],
   steadyEnd: (asked) => ['steady', PROGRAM, ...observer(asked), '--whole'],
   timeline: (asked) => ['timeline', PROGRAM, STARTS, ...settings(asked)],
@@ -80,19 +83,25 @@ const STEADY_END = [...STEADY, ['and its end', 'lab', 'steadyEnd']];
 const NOT_ON_MACHINES = ['audit', 'cut'];
 const COMPARED = [['with partitions', 'partitioned'], ['with one cache for all', 'shared']];
 
+// A word as a shell takes it: what begins with # would be a comment.
+const quoted = (word) => (word.startsWith('#') ? `'${word}'` : word);
+
 function commandLine(says, program, name, asked) {
   const words = WORDS[name](asked);
-  return { says, program, words, line: `./${program} ${words.join(' ')}`, files: filesOf(asked) };
+  return { says, program, words, line: `./${program} ${words.map(quoted).join(' ')}`, files: filesOf(asked) };
 }
 
 /** The command lines that give what the page shows: [{says, program, words, line, files}]. `steady` is the answer to
     whether the program is constant in time, where that was asked, `banks` the machine's text where partitions stand
-    beside one cache for all. */
-export function commandLines(asked, kind, steady = null, banks = null) {
-  const more = !steady ? [] : steady.kind === 'yes' ? STEADY_END : STEADY;
+    beside one cache for all, and `mark` the number of the mitigate whose best first predictions are shown. */
+export function commandLines(asked, kind, { steady = null, banks = null, mark = null } = {}) {
+  const more = [
+    ...(mark === null ? [] : [['the best first predictions', 'lab', 'tune']]),
+    ...(!steady ? [] : steady.kind === 'yes' ? STEADY_END : STEADY),
+  ];
   const isThere = ([, , name]) => !(isOwn(asked) && NOT_ON_MACHINES.includes(name));
   const lines = [...(LISTS[kind] ?? LISTS.other), ...more].filter(isThere)
-    .map(([says, program, name]) => commandLine(says, program, name, asked));
+    .map(([says, program, name]) => commandLine(says, program, name, { ...asked, mark }));
   if (banks === null) return lines;
   return [...lines, ...COMPARED.map(([says, side]) => commandLine(says, 'lab', 'leak', onSide(asked, banks, side)))];
 }

@@ -12,7 +12,8 @@ export function commandsNow() {
   const { verdict, audit, steady, compared } = shown;
   if (verdict?.kind === 'accepted') kind = spaceNow() ? 'space' : audit?.isCut ? 'cut' : 'accepted';
   else if (verdict?.kind === 'refused' || !kind) kind = verdict?.kind ?? '';
-  return commandLines(state, kind, steady, compared ? banksNow() : null);
+  const mark = kind === 'accepted' ? shown.tuned?.mark ?? null : null;
+  return commandLines(state, kind, { steady, banks: compared ? banksNow() : null, mark });
 }
 
 export function drawCommands() {

@@ -3,7 +3,7 @@
 import { drawPaid } from './code_part.js';
 import { lineCosts } from './line_costs.js';
 import { theEditor } from './program_part.js';
-import { lacksCode, readingNow, runNumber, unreadText } from './reading_part.js';
+import { lacksCode, ownCodeText, readingNow, runNumber, unreadText } from './reading_part.js';
 import { costsByLine, linesOfCode, withReading } from './reading_text.js';
 import { $, shown, state } from './state.js';
 
@@ -19,7 +19,8 @@ export function drawCosts() {
   $('costs-of').textContent = isAsked && run ? `Cycles of run ${number + 1}` : 'Cycles';
   $('costs-says').hidden = !isAsked;
   const isThere = isAsked && runNumber() !== null, { about, reading } = isThere ? readingNow() : {};
-  $('costs-says').textContent = reading ? SAYS : `${TOLD} ${isThere ? unreadText(readingNow()) : ''}`.trim();
+  const told = `${TOLD} ${isThere ? unreadText(readingNow()) : ''}`.trim();
+  $('costs-says').textContent = reading ? SAYS + ownCodeText() : told;
   drawPaid(reading?.costs ?? null);
   if (!isAsked) theEditor().showCosts(null);
   else theEditor().showCosts(isThere ? costsOf(run, about, reading) : new Map());

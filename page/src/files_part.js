@@ -25,11 +25,11 @@ export function drawWayBack() {
 
 const answers = () => {
   const fresh = (name, value) => (isFresh(name, answeredOf[name], state, faults) ? value : null);
-  const { verdict, steady, audit, leak, compared, runs, mitigates, points } = shown;
+  const { verdict, steady, audit, leak, compared, runs, mitigates, points, tuned } = shown;
   return {
     state, verdict: fresh('verdict', verdict), steady: fresh('steady', steady), audit: fresh('audit', audit),
     leak: fresh('leak', leak), runs: fresh('runs', runs), mitigates: fresh('runs', mitigates),
-    points: fresh('points', points), compared: fresh('compared', compared),
+    points: fresh('points', tuned ? [] : points), tuned: fresh('points', tuned), compared: fresh('compared', compared),
   };
 };
 

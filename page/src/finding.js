@@ -103,6 +103,11 @@ export function refusalText(refusal, labels, observer) {
     return `No count: run ${spaced(unfinished[1])} has not halted by the greatest cycle, and on a machine of a file`
       + ' only runs are counted that have.';
   }
+  if (refusal.unknown?.length) {
+    const names = refusal.unknown.map((name) => `<code>${escaped(name)}</code>`).join(', ');
+    return `No runs: the starts give values to ${names}, which the program does not declare. A column can be renamed or`
+      + ' dropped below.';
+  }
   if (refusal.kind === 'starts' || refusal.kind === 'space') return `No runs: <code>${escaped(refusal.text)}</code>.`;
   return `No count: <code>${escaped(refusal.text)}</code>.`;
 }

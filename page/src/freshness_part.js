@@ -40,6 +40,8 @@ export function drawFreshness() {
   }
   $('why').classList.toggle('stale', isStale('verdict'));
   $('mend').hidden = !fresh('verdict');
+  // no step is gone of a run that is not of what is there
+  for (const id of ['step-on', 'step-back']) $(id).disabled ||= isStale('runs');
   const { verdict } = shown, isOfVerdict = verdict && verdict.kind !== 'accepted';
   const isOfNow = fresh('verdict') && (isOfVerdict ? !isOfSteady : fresh('audit'));
   $('sentence').classList.toggle('stale', !isOfNow);

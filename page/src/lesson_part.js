@@ -42,7 +42,7 @@ function guessText({ ask, options, right, tells }) {
   const answerText = (option, k) => {
     const isRight = isAnswered && k === right, mark = isRight ? '✓ ' : '';
     return `<button type="button" data-guess="${k}" aria-pressed="${k === chosen}"${isAnswered ? ' disabled' : ''}`
-      + `${isRight ? ' class="right"' : ''}>${mark}${escaped(option)}</button>`;
+      + `${isRight ? ' class="true"' : ''}>${mark}${escaped(option)}</button>`;
   };
   const says = chosen === right ? 'You guessed right.' : chosen < 0 ? '' : 'You guessed something else.';
   const told = isAnswered ? `<p>${says} ${escaped(tells)}</p>` : '';

@@ -15,11 +15,12 @@ import { drawLeak, listenLeak } from './leak_part.js';
 import { closeLesson, listenLesson, openTask } from './lesson_part.js';
 import { linkOf, stateOf } from './link.js';
 import { drawMachine, listenMachine, noteMachineFault } from './machine_part.js';
-import { listenProgram, loadProgram } from './program_part.js';
+import { listenProgram, loadProgram, sayOfExample } from './program_part.js';
 import { drawStarts, listenStarts } from './starts_part.js';
 import { $, answeredOf, calls, faults, shown, state } from './state.js';
 import { drawSteady, listenSteady } from './steady_part.js';
 import { listenSteps } from './steps_part.js';
+import { knowsTune } from './study.js';
 import { drawSweep, listenSweep } from './sweep_part.js';
 import { readTask } from './tasks.js';
 import { listenTeach } from './teach_part.js';
@@ -40,7 +41,7 @@ function load(next, { isOwn = false, isLesson = false, isBack = false, example =
   if (!isLesson) closeLesson();
   noteLoaded(next, { isOwn, isLesson });
   $('example').value = example;
-  $('example-says').textContent = says;
+  sayOfExample(says);
   Object.assign(state, USUAL, { starts: next.starts });
   for (const name of Object.keys(USUAL)) state[name] = next[name] ?? USUAL[name];
   loadProgram(next.program);
@@ -51,8 +52,9 @@ function load(next, { isOwn = false, isLesson = false, isBack = false, example =
   noteMachineFault(null);
   for (const name of Object.keys(answeredOf)) delete answeredOf[name];
   Object.assign(shown, {
-    points: [], isSwept: false, audit: null, leak: null, runs: null, mitigates: null, verdict: null, steps: [],
-    told: [], steady: null, wantsSteady: false, code: null, compared: null, mostRuns: undefined,
+    points: [], isSwept: false, tuned: null, audit: null, leak: null, runs: null, mitigates: null, verdict: null,
+    steps: [], told: [], steady: null, wantsSteady: false, code: null, isOwnCode: false, codeText: '',
+    compared: null, mostRuns: undefined,
   });
   shown.labels = writtenLabels(state.program);
   drawObservers();
@@ -212,6 +214,7 @@ async function begin() {
     drawNoModule(fault.message);
     return;
   }
+  shown.hasTune = await knowsTune(calls.tool);
   document.documentElement.dataset.ready = calls.tool.programs.join(' ');
   drawSteady();
   drawLeak();

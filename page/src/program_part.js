@@ -6,7 +6,7 @@ import { Editor } from './editor.js';
 import { $, answeredOf, mitigatesNow, shown, state } from './state.js';
 import { isOnlyRefused } from './steady_part.js';
 
-const CHANGED = ' (Changed since.)';
+const CHANGED = 'Changed since: ';
 
 let editor = null, coloured = '';
 
@@ -61,11 +61,16 @@ export function loadProgram(text) {
   editor.load(text);
 }
 
+/** The example's sentence, which is cut off where the line has no room for it, and stands whole beside the pointer. */
+export function sayOfExample(text) {
+  $('example-says').textContent = $('example-says').title = text;
+}
+
 // The program is no example any more, and what was said of it holds of what it was.
 function leaveExample() {
   const says = $('example-says');
   if ($('example').value !== 'own') $('example').value = 'own';
-  if (says.textContent && !says.textContent.endsWith(CHANGED)) says.textContent += CHANGED;
+  if (says.textContent && !says.textContent.startsWith(CHANGED)) sayOfExample(CHANGED + says.textContent);
 }
 
 /** The program changed by the page, as one step of what can be undone. */

@@ -41,7 +41,7 @@ function told(number) {
     there is no such run, or no code of it. */
 export function readingNow() {
   const number = runNumber();
-  if (number === null || shown.verdict?.kind !== 'accepted') return {};
+  if (number === null) return {};
   const run = shown.runs[number];
   if (known.run !== run || known.code !== shown.code || !known.told.about) {
     known = { run, code: shown.code, told: told(number) };
@@ -53,6 +53,10 @@ export function readingNow() {
 export function unreadText({ why }) {
   if (why === 'long') return 'This run has too many instructions to go through here.';
   if (why === 'other') return 'The page reads this run otherwise than the tool, so that its reading is not shown.';
-  if (shown.verdict?.kind === 'refused') return 'Of a refused program there is no code to go through.';
+  if (shown.code === null && !lacksCode()) return 'There is no code of this program to go through.';
   return '';
 }
+
+/** What is added where a run is read by code that the page made itself. */
+export const ownCodeText = () => (shown.isOwnCode
+  ? ' The tool compiles no refused program: its code is made here, by its least labels.' : '');

@@ -22,7 +22,8 @@ export const shown = {
   mended: null, // the offered mitigate
   // the program's, and of each variable
   labels: { names: ['L', 'H'], pairs: [], of: new Map(), marks: null, levels: null },
-  code: null, // the instructions
+  // the instructions, whether the page made them itself, of a refused program, and what the tool says in place of them
+  code: null, isOwnCode: false, codeText: '',
   steady: null, wantsSteady: false, // whether it is constant in time, and whether that is asked of what is accepted too
   audit: null, // {report, isCut, sharp} or {refusal}
   leak: null, // what the runs tell, exactly
@@ -33,6 +34,7 @@ export const shown = {
   view: null, page: 0, lane: -1, // the cycles and the runs that the lanes show, and the run that is looked at
   points: [], unfinished: 0, least: null, // what was tried with other predictions, and with how many not all runs halt
   isSwept: false, // whether all that there is to try was tried
+  hasTune: false, tuned: null, // whether the lab tells the best first predictions, and what it told in place of a sweep
 };
 
 /** Of which text and settings each answer is, by the answer's name; what is not here was not answered. */

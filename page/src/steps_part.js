@@ -4,7 +4,7 @@
 import { atInstruction } from './code_part.js';
 import { theEditor } from './program_part.js';
 import { machineAfter } from './reading.js';
-import { lacksCode, readingNow, runNumber, unreadText } from './reading_part.js';
+import { lacksCode, ownCodeText, readingNow, runNumber, unreadText } from './reading_part.js';
 import { heldTable, instructionText, linesOfCode } from './reading_text.js';
 import { $, shown, state } from './state.js';
 import { stepsOf, stepText } from './steps.js';
@@ -72,7 +72,7 @@ function drawHeld(about, reading) {
     return;
   }
   const now = machineAt(about, reading, isEach ? number + 1 : endedBy(reading, steps[number].cycle));
-  box.innerHTML = `${heldTable(now, about, shown.labels)}<p class="hint">${READ}</p>`;
+  box.innerHTML = `${heldTable(now, about, shown.labels)}<p class="hint">${READ}${ownCodeText()}</p>`;
   atInstruction(now.last?.number ?? null);
 }
 

@@ -1,13 +1,14 @@
 // What the page asks of the tool about one program and its starts. Each answer is what the tool printed, read.
 
 import {
-  classesOf, markSeen, readAudit, readFault, readLeak, readRefusal, readRun, readSteady, readTimeline, readVerdict,
-  readWhy,
+  classesOf, markSeen, readAudit, readFault, readLabel, readLeak, readRefusal, readRun, readSteady, readTimeline,
+  readTune, readVerdict, readWhy,
 } from './answers.js';
 import { asSeen, countCall, filesOf, MACHINE, onSide, PROGRAM, STARTS, WORDS } from './commands.js';
-import { offsetOf, placeOf, readProgram, withEstimate, wrapped } from './language.js';
+import { mitigates, offsetOf, placeOf, readProgram, withEstimate, wrapped } from './language.js';
 import { machineFault, OWN } from './machine.js';
-import { oneStart, readStarts } from './starts.js';
+import { ownCode } from './own_code.js';
+import { columnsOf, oneStart, readStarts } from './starts.js';
 
 const DONE = 0, OUT_OF_BUDGET = 8, UNFINISHED = 10;
 
@@ -31,6 +32,25 @@ export async function completedBy(tool, state) {
 /** The text of the compiled code, or the refusal's line. */
 export async function codeOf(tool, state) {
   return tool.call('mitigate', WORDS.compile(), files(state));
+}
+
+/** The labels of a program's variables and arrays, by name, and of its mitigates, by number: the written ones, and of
+    those that are left out the least ones, each as the lab tells it. Null where it does not. */
+export async function leastLabelsOf(tool, state) {
+  const program = tool.has('lab') ? readProgram(state.program) : null;
+  if (!program) return null;
+  const asked = async (name) =>
+    readLabel((await tool.call('lab', WORDS.whyOf({ name }), { [PROGRAM]: state.program })).text, name);
+  const of = new Map(), levels = [];
+  for (const { name, label } of program.variables) of.set(name, label ?? await asked(name));
+  for (const { level, mark } of mitigates(program)) levels.push(level ?? await asked(`#${mark}`));
+  return [...of.values(), ...levels].includes(null) ? null : { of, levels };
+}
+
+/** The code of a refused program, by its least labels, as the page reads it; null where the lab does not tell these. */
+export async function refusedCodeOf(tool, state) {
+  const labels = await leastLabelsOf(tool, state);
+  return labels && ownCode(readProgram(state.program), state.program, labels);
 }
 
 /** The chain of a refusal, by the lab; null where the lab is not in the module. */
@@ -84,9 +104,17 @@ export async function auditOf(tool, state) {
     const report = readAudit(answer.text);
     return { report, isCut: false, ...(isOwn ? { sharp: sharpIn(report) } : {}) };
   }
-  if (answer.status !== UNFINISHED || isOwn) return { refusal: refusalOf(answer) };
+  if (answer.status !== UNFINISHED || isOwn) return { refusal: withUnknown(refusalOf(answer), state) };
   const cut = await tool.call('mitigate', WORDS.cut(state), files(state));
   return cut.status === DONE ? { report: readAudit(cut.text), isCut: true } : { refusal: refusalOf(cut) };
+}
+
+// A refusal of starts for a name that the program does not declare has the names.
+function withUnknown(refusal, state) {
+  const starts = readStarts(state.starts), program = readProgram(state.program);
+  if (!/: unknown key$/.test(refusal.text) || !program || !starts.runs) return refusal;
+  const isKnown = (name) => program.variables.some((variable) => variable.name === name);
+  return { ...refusal, unknown: columnsOf(starts).filter((name) => !isKnown(name)) };
 }
 
 const sharpIn = (report) => (report?.sharp === undefined ? null : report);
@@ -190,6 +218,17 @@ export async function refusedRunsOf(tool, state) {
 function withClasses(told) {
   if (told.runs) classesOf(told.runs).forEach((number, k) => Object.assign(told.runs[k], { class: number }));
   return told;
+}
+
+/** Whether the lab of the module tells the best first predictions. */
+export async function knowsTune(tool) {
+  return tool.has('lab') && (await tool.call('lab', WORDS.helpTune(), {})).status === DONE;
+}
+
+/** The first predictions of a mitigate that no other one betters, by the lab: what `readTune` tells, or {refusal}. */
+export async function tuneOf(tool, state, { mark }) {
+  const answer = await tool.call('lab', WORDS.tune({ ...state, mark }), files(state));
+  return (answer.status === DONE ? readTune(answer.text) : null) ?? { refusal: refusalOf(answer) };
 }
 
 /** One point of the sweep: how many sequences a first prediction leaves, the shortest and the longest run, and where

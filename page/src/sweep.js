@@ -79,20 +79,31 @@ export function sweepText(points, least, current, unfinished = 0) {
 
 const LEFT = 58, RIGHT = 24, TOP = 30, BOTTOM = 46, NARROW = 560;
 
-/** The picture: first predictions from left to right, the longest run upwards, colours for numbers of sequences. */
-export function sweepPicture(points, { width, high = 320, current = null }) {
+// From which first prediction to which one nothing is told; null where to none. A point that is a choice has the last
+// one with which nothing changes.
+function quietSpan(points, most) {
+  if (points.every(({ last }) => last === undefined)) {
+    const quiet = quietFrom(points);
+    return quiet && { from: quiet.before ? quiet.first.prediction : 1, to: most };
+  }
+  const quiet = points.find(({ sequences }) => sequences === 1);
+  return quiet ? { from: quiet.prediction, to: Math.min(quiet.last, most) } : null;
+}
+
+/** The picture: first predictions from left to right to `most`, the longest run upwards, colours for numbers of
+    sequences. */
+export function sweepPicture(points, { width, high = 320, current = null, most = null }) {
   const sorted = [...points].sort((a, b) => a.prediction - b.prediction);
-  const doublings = Math.max(1, Math.log2(sorted.at(-1).prediction));
+  const greatest = most ?? sorted.at(-1).prediction, doublings = Math.max(1, Math.log2(greatest));
   const top = Math.max(...sorted.map((point) => point.longest)) * 1.05, tall = high - TOP - BOTTOM;
   const x = (n) => LEFT + ((width - LEFT - RIGHT) * Math.log2(n)) / doublings;
   const y = (cycles) => TOP + tall * (1 - cycles / top);
   const out = [`<svg xmlns="http://www.w3.org/2000/svg" viewBox="0 0`
     + ` ${width} ${high}" width="${width}" height="${high}" font-size="12" font-family="system-ui, sans-serif"`
       + ` role="group" aria-label="Longest run against first prediction">`];
-  const quiet = quietFrom(sorted);
+  const quiet = quietSpan(sorted, greatest);
   if (quiet) {
-    const edge = quiet.before ? x(quiet.first.prediction) : LEFT;
-    const wide = at(Math.max(width - RIGHT - edge, 2));
+    const edge = x(quiet.from), wide = at(Math.max(x(quiet.to) - edge, 2));
     out.push(`<rect x="${at(edge)}" y="${TOP}" width="${wide}" height="${tall}" fill="var(--good-tint)"/>`);
     const fits = width - RIGHT - edge > 190;
     const says = width < NARROW ? 'nothing is told' : 'one sequence: nothing is told';
@@ -114,7 +125,7 @@ export function sweepPicture(points, { width, high = 320, current = null }) {
   const [nameAt, anchor] = isLeft ? [LEFT, 'start'] : [width - RIGHT, 'end'];
   out.push(`<text x="${nameAt}" y="${high - 8}" text-anchor="${anchor}">first prediction, in cycles</text>`);
   out.push(`<text x="8" y="${TOP - 10}">longest run, in cycles</text></g>`);
-  if (current !== null && current <= sorted.at(-1).prediction) {
+  if (current !== null && current <= greatest) {
     out.push(`<path d="M${at(x(current))} ${TOP}V${TOP + tall}" stroke="var(--ink)" stroke-dasharray="3 3"`
       + ` opacity=".7"/><text x="${at(x(current))}" y="${high - 8}" text-anchor="middle" fill="var(--ink)">now`
         + ` ${spaced(current)}</text>`);
@@ -122,7 +133,8 @@ export function sweepPicture(points, { width, high = 320, current = null }) {
   for (const point of sorted) {
     const sequences = point.sequences === 1 ? 'one sequence' : counted(point.sequences, 'sequence');
     const from = point.shortest === point.longest ? '' : `${spaced(point.shortest)} to `;
-    const text = `${spaced(point.prediction)}: ${sequences}, ${from}${counted(point.longest, 'cycle')}`;
+    const text = point.says
+      ?? `${spaced(point.prediction)}: ${sequences}, ${from}${counted(point.longest, 'cycle')}`;
     const place = at(x(point.prediction)), colour = classColour(point.sequences);
     out.push(`<g class="point"`
       + ` data-prediction="${point.prediction}" data-tip="${escaped(text)}" role="img" aria-label="${escaped(text)}">`);
@@ -135,7 +147,7 @@ export function sweepPicture(points, { width, high = 320, current = null }) {
     out.push(`<circle cx="${place}" cy="${at(y(point.longest))}" r="${round}" fill="${colour}"/>`);
     out.push(point.sequences > 1 && width >= NARROW
       ? `<text x="${place}" y="${at(y(point.longest) - Math.min(6 + point.sequences, 12))}" text-anchor="middle"`
-        + ` font-size="10.5" fill="var(--soft)">${point.sequences}</text></g>` : '</g>');
+        + ` font-size="12" fill="var(--soft)">${point.sequences}</text></g>` : '</g>');
   }
   out.push('</svg>');
   return out.join('\n');

@@ -1,5 +1,7 @@
 // The sweep: trying other first predictions in place of one mitigate's estimate, and showing what they tell and cost.
 
+import { choicesNote, choicesTable, choicesText, pointsOf } from './choices.js';
+import { drawCommands } from './commands_part.js';
 import { drawFreshness } from './freshness_part.js';
 import { counted, spaced } from './numbers.js';
 import { placeOf, withEstimate } from './language.js';
@@ -8,7 +10,7 @@ import { changeProgram } from './program_part.js';
 import { saveSvg } from './saving.js';
 import { $, answeredOf, calls, mitigatesNow, shown, state } from './state.js';
 import { isFresh } from './freshness.js';
-import { pointOf } from './study.js';
+import { pointOf, tuneOf } from './study.js';
 import { halveGap, pointsTable, powerFrom, predictions, sweepPicture, sweepText } from './sweep.js';
 import { Stopped } from './tool.js';
 
@@ -34,9 +36,11 @@ const say = (words) => {
   drawFreshness();
 };
 
+const STOP = 'Stop', goText = () => (shown.hasTune ? 'Ask which ones matter' : 'Try predictions');
+
 function endSweep() {
   if ($('sweep').getAttribute('aria-busy') !== 'true') return;
-  $('sweep-go').textContent = 'Try predictions';
+  $('sweep-go').textContent = goText();
   $('sweep').setAttribute('aria-busy', 'false');
 }
 
@@ -47,28 +51,46 @@ export function stopSweep() {
   endSweep();
 }
 
-/** Tries predictions and draws as they come; nothing where there is no sweep to make. */
+/** Asks which predictions matter, or tries some where the module does not tell that, and draws as they come; nothing
+    where there is no sweep to make. */
 export async function sweep() {
   stopSweep();
   const mine = ++sweepTurn, isOld = () => mine !== sweepTurn;
   const mitigate = whichMitigate();
   if (!mitigate || !canSweep()) return;
   const current = estimateOf(mitigate), trial = trialOf(mitigate, isOld);
-  Object.assign(shown, { points: [], unfinished: 0, isSwept: false });
+  Object.assign(shown, { points: [], unfinished: 0, isSwept: false, tuned: null });
   answeredOf.points = { ...state };
-  $('sweep-go').textContent = 'Stop';
+  $('sweep-go').textContent = STOP;
   $('sweep').setAttribute('aria-busy', 'true');
+  let untold = '';
   try {
-    await tryPredictions(trial, current, isOld);
+    const tuned = shown.hasTune ? await tuneOf(calls.sweeper, { ...state }, mitigate) : null;
+    if (isOld()) return;
+    untold = tuned?.refusal ? UNTOLD(tuned.refusal) : '';
+    if (tuned?.choices) showChoices(tuned);
+    else await tryPredictions(trial, current, isOld);
     shown.isSwept = !isOld();
   } catch (fault) {
     if (!(fault instanceof Stopped)) $('sweep-text').textContent = `No answer: ${fault.message}`;
   } finally {
     if (!isOld()) {
       endSweep();
-      say(shown.points.length ? pointsText(shown.points.length, current, trial.unfinished.size) : '');
+      say(shown.tuned ? choicesNote(shown.tuned)
+        : untold + (shown.points.length ? pointsText(shown.points.length, current, trial.unfinished.size) : ''));
     }
   }
+}
+
+// Why predictions are tried where the lab could tell which ones matter.
+const UNTOLD = ({ text }) => (/its estimate is no number$/.test(text)
+  ? 'Which ones matter is told of an estimate that is a number alone. ' : `Which ones matter is not told: ${text}. `);
+
+function showChoices(tuned) {
+  Object.assign(shown, { tuned, points: pointsOf(tuned.choices) });
+  $('sweep-numbers').open = true;
+  drawSweep();
+  drawCommands();
 }
 
 // The points that were tried, and the predictions with which not all runs halt; `point` tries one that is neither.
@@ -132,15 +154,25 @@ export function drawSweep() {
   }
   if ($('sweep').hidden) return;
   drawChoice();
+  if ($('sweep').getAttribute('aria-busy') !== 'true') $('sweep-go').textContent = goText();
   $('sweep-go').disabled = !can;
   $('sweep-save').hidden = $('sweep-numbers').hidden = points.length === 0;
+  // What was told of the text before stays, word for word.
+  if (isOld && points.length > 0 && $('sweep-text').textContent) return;
   if (points.length === 0) {
     $('sweep-picture').innerHTML = '';
-    $('sweep-text').textContent = '';
+    $('sweep-text').textContent = shown.tuned ? choicesText([]) : '';
     return;
   }
   const mitigate = whichMitigate(), current = mitigate ? estimateOf(mitigate) : null;
   const width = Math.max($('sweep-picture').clientWidth - 2, 280);
+  if (shown.tuned) {
+    const { choices } = shown.tuned, most = 2 * powerFrom(Math.max(choices.at(-1).first, current ?? 1));
+    $('sweep-picture').innerHTML = sweepPicture(points, { width, current, most });
+    $('sweep-text').textContent = choicesText(choices, current);
+    $('sweep-table').innerHTML = choicesTable(choices, current);
+    return;
+  }
   $('sweep-picture').innerHTML = sweepPicture(points, { width, current });
   $('sweep-text').textContent = sweepText(points, shown.least, current, shown.unfinished);
   $('sweep-table').innerHTML = pointsTable(points);
@@ -165,7 +197,7 @@ export function listenSweep() {
     if (!mitigate) return;
     changeProgram(withEstimate(state.program, mitigate, prediction));
   };
-  $('sweep-go').addEventListener('click', () => ($('sweep-go').textContent === 'Stop' ? stopSweep() : sweep()));
+  $('sweep-go').addEventListener('click', () => ($('sweep-go').textContent === STOP ? stopSweep() : sweep()));
   $('sweep-which').addEventListener('change', () => sweep());
   $('sweep-save').addEventListener('click', () => saveSvg($('sweep-picture'), 'sweep.svg'));
   $('sweep-table').addEventListener('click', (event) => {

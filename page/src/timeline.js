@@ -74,7 +74,7 @@ export function runText(run, number) {
 
 /** The picture of runs, each with its number and class. `first` is the number of the first one. */
 export function timeline(runs, { width, view, first = 1 }) {
-  const lane = laneOf(runs.length), size = lane / 30, font = lane < 20 ? 11 : 12.5;
+  const lane = laneOf(runs.length), size = lane / 30, font = lane < 20 ? 12 : 13;
   const [from, to] = view, high = TOP + lane * runs.length, isNarrow = width < NARROW, left = leftOf(width);
   const x = (cycle) => left + ((width - left - RIGHT) * (cycle - from)) / (to - from);
   const isIn = (cycle) => cycle >= from && cycle <= to;
@@ -96,7 +96,7 @@ export function timeline(runs, { width, view, first = 1 }) {
   for (const y of runs.length > 12 ? [TOP - 10, high + 17] : [high + 17]) {
     for (const cycle of marks) out.push(`<text x="${at(x(cycle))}" y="${y}">${spaced(cycle)}</text>`);
   }
-  out.push(`</g><text x="${left}" y="${high + 31}" fill="var(--soft)" font-size="11.5">cycles</text>`);
+  out.push(`</g><text x="${left}" y="${high + 31}" fill="var(--soft)" font-size="12">cycles</text>`);
   runs.forEach((run, k) => drawLane(run, k));
   out.push('</svg>');
   return out.join('\n');

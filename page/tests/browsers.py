@@ -92,7 +92,13 @@ class Browser:
         return self.command("find", {"using": "css selector", "value": selector})[ELEMENT]
 
     def click(self, selector):
-        self.command("click", {"id": self.element(selector)})
+        """Clicks on the middle of an element; where a notice lies over it, it is brought to the middle of the window first."""
+        covered = "const at = arguments[0].getBoundingClientRect(), notice = document.getElementById('notice')?.getBoundingClientRect();"
+        covered += "return notice && notice.height > 0 && at.bottom > notice.top && at.top < notice.bottom"
+        element = {ELEMENT: self.element(selector)}
+        if self.run(covered, element):
+            self.run("arguments[0].scrollIntoView({ block: 'center' })", element)
+        self.command("click", {"id": element[ELEMENT]})
 
     def press(self, *keys):
         """Presses keys one after the other; `Control+a` holds the first one."""

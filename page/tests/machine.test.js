@@ -203,7 +203,7 @@ test('words for different sequences are where they part', () => {
 });
 
 test('a machine in the command lines, in what is fresh, in links and in files', async () => {
-  const lines = commandLines(state, 'accepted', null, SHARED);
+  const lines = commandLines(state, 'accepted', { banks: SHARED });
   assert.deepEqual(lines.map(({ line }) => line).slice(1, 3),
     [`./lab bound ${NAMED} --observer L ${ON}`, `./lab leak ${NAMED} --observer L ${ON}`]);
   assert.deepEqual(lines.slice(-2).map(({ line }) => line), ['partitioned', 'shared']

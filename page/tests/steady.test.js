@@ -112,7 +112,7 @@ test('it is asked for the chosen observer: of what is seen, and after a yes of t
   assert.equal(await steadyOf(tool(YES, false), state), null);
   const line = 'lab steady program.mit --observer bob';
   assert.deepEqual(calls, [line, `${line} --whole`, line]);
-  const offered = (steady) => commandLines(state, 'refused', steady).map((command) => command.line).slice(4);
+  const offered = (steady) => commandLines(state, 'refused', { steady }).map((command) => command.line).slice(4);
   assert.deepEqual([offered(null), offered(no), offered(yes)], [[], [`./${line}`], [`./${line}`, `./${line} --whole`]]);
 });
 

@@ -55,6 +55,14 @@ test('an audit, and a cut where a run has not halted', async () => {
   assert.equal((await auditOf(refused, state)).refusal.kind, 'disagree');
 });
 
+test('starts of names that are not declared are refused with these names', async () => {
+  const tool = (text) => toolOf(['mitigate'], byWords({ audit: () => ({ status: 3, text }) }));
+  const asked = { ...state, starts: '[[run]]\nmemory = { h = 1, k = 2 }\n\n[[run]]\nmemory = { j = 2 }\n' };
+  const unknown = async (text) => (await auditOf(tool(text), asked)).refusal.unknown;
+  assert.deepEqual(await unknown('starts: run 1: unknown key\n'), ['k', 'j']);
+  assert.equal(await unknown('starts: run 1: not a number\n'), undefined);
+});
+
 test('without the lab each start has two runs of its own, and its parts are left out', async () => {
   const tool = toolOf(['mitigate'], byWords({ run: runText }));
   const told = await runsOf(tool, state);

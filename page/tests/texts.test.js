@@ -4,7 +4,7 @@
 import assert from 'node:assert/strict';
 import test from 'node:test';
 import { auditBoxes, auditWords } from '../src/audit_text.js';
-import { codeText } from '../src/code_part.js';
+import { codeText } from '../src/code_text.js';
 import { commandLines } from '../src/commands.js';
 import { findingText, isLeaking } from '../src/finding.js';
 import { isFresh, ofWhat, staleText } from '../src/freshness.js';
@@ -103,6 +103,9 @@ test('why nothing was found', () => {
   assert.match(found({ refusal: { kind: 'disagree', text: 'disagree: run 3: partition L of data' } }),
     /run 3 differs .* cache partition L of data\.$/);
   assert.equal(found({ refusal: { kind: 'starts', text: 'starts: not TOML' } }), 'No runs: starts: not TOML.');
+  assert.equal(found({ refusal: { kind: 'starts', text: 'starts: run 1: unknown key', unknown: ['guess', 'k'] } }),
+    'No runs: the starts give values to guess, k, which the program does not declare. A column can be renamed or'
+      + ' dropped below.');
   assert.equal(found(null), '');
   assert.deepEqual([isLeaking({ report }), isLeaking({ report: { ...report, distinct: 1 } }), isLeaking(null)],
     [true, false, false]);

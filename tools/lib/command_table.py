@@ -8,7 +8,7 @@ import tomllib
 TOP = pathlib.Path(__file__).resolve().parent.parent.parent
 TABLE = TOP / "docs/data/commands.toml"
 PROGRAMS = ("mitigate", "lab")
-PART = re.compile(r"(?P<open>\[?)(?:--(?P<option>[a-z]+)(?: (?P<value>[A-Z]+))?|(?P<word>[A-Z]+))(?P<close>\]?)")
+PART = re.compile(r"(?P<open>\[?)(?:--(?P<option>[a-z]+)(?: (?P<value>#?[A-Z]+))?|(?P<word>[A-Z]+))(?P<close>\]?)")
 
 
 @dataclasses.dataclass
@@ -19,6 +19,11 @@ class Part:
     option: str
     value: str
     needed: bool
+
+    @property
+    def key(self):
+        """The name under which the table tells of the option, or the word."""
+        return key_of(self.option, self.value) if self.option else self.word
 
 
 @dataclasses.dataclass
@@ -59,6 +64,12 @@ def commands(program=None):
     return [command for command in found if program in (None, command.program)]
 
 
+def key_of(option, value):
+    """The name under which the table tells of an option with a value: its own, but where several commands have other values for it."""
+    found = [key for key, row in table()["option"].items() if row.get("long", key) == option]
+    return next((key for key in found if table()["option"][key].get("value", "") == value), option)
+
+
 def choices(option):
     """The names that an option's value is one of; none where it is no choice."""
     return [choice["name"] for choice in table()["option"][option].get("choice", [])]
@@ -73,8 +84,9 @@ def form_of(command):
     """A command's form as usage texts have it, with its program and its name."""
 
     def told(part):
-        option = table()["option"][part["option"]] if part["option"] else {}
-        value = "|".join(choices(part["option"])) if option.get("choice") else option.get("in_usage", part["value"])
+        key = key_of(part["option"], part["value"] or "")
+        option = table()["option"][key] if part["option"] else {}
+        value = "|".join(choices(key)) if option.get("choice") else option.get("in_usage", part["value"])
         return part[0] if not part["value"] else f"{part['open']}--{part['option']} {value}{part['close']}"
 
     return f"{command.program} {command.name} {PART.sub(told, command.form)}".rstrip()
@@ -82,11 +94,11 @@ def form_of(command):
 
 def line_of(command, part):
     """What `lab help` tells of a word or an option."""
-    option = table()["option"].get(part.option, {})
+    option = table()["option"].get(part.key, {})
     if part.word:
         return f"  {part.word:<11} {table()['word'][part.word]['is']}"
     told = f"{option['is']}: {option['says']}" if part.value else option["says"]
-    without = command.without.get(part.option, option.get("default"))
+    without = command.without.get(part.key, option.get("default"))
     return f"  --{part.option:<9} {told}" + (f"; {without} where it is left out" if without is not None else "")
 
 

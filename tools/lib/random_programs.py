@@ -88,6 +88,10 @@ class Maker:
             parts = self.dice.choice([["--parts", self.label()], []])
             yield "lab", ["steady", "p", "--observer", self.label(), *parts, *self.dice.choice([["--whole"], []])]
 
+    def mark(self):
+        """Which mitigate `tune` is asked about."""
+        return self.dice.choice([[], ["--of", "#0"], ["--of", "#1"], ["--of", "#2"]])
+
     def calls(self):
         """Each call's program with its words."""
         setting = ["--env", self.dice.choice(["flat", "part", "part2"]), "--budget", self.dice.choice(["200", "3000", "20000"])]
@@ -100,9 +104,11 @@ class Maker:
         yield from self.verdicts()
         yield from (("lab", [word, "p", "s", *observer, *setting]) for word in ("seen", "bound", "leak"))
         yield "lab", ["timeline", "p", "s", *setting, *self.dice.choice([observer, []])]
+        yield "lab", ["tune", "p", "s", *observer, *setting, *self.mark()]
         on_machine = ["--machine", "m", *setting[2:]]
         yield from (("lab", [word, "p", "s", *observer, *on_machine]) for word in ("seen", "bound", "leak"))
         yield "lab", ["timeline", "p", "s", *on_machine]
+        yield "lab", ["tune", "p", "s", *observer, *on_machine, *self.mark()]
 
     def changed(self, certificate):
         """A certificate, mostly with one of its words changed."""

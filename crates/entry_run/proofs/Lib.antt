@@ -1,7 +1,9 @@
 pub mod Joining
 pub mod Keeping
+pub mod Counting
 pub mod Posing
 pub mod Costs
 pub mod Stepping
 pub mod Running
+pub mod Settled
 pub mod Operands

@@ -1,9 +1,10 @@
 -- Entries that are kept joined: cycles that pass where nothing is seen are added to the next entry.
-use Rattle.std.specs.Prelude.{◌≡◌, ◌+◌, ℕ, List, [], ◌∷◌, ℤ, Option, Some, None}
+use Rattle.std.specs.Prelude.{◌≡◌, ◌+◌, ℕ, List, [], ◌∷◌, ℤ, Bool, Option, Some, None}
 use Rattle.first_replay.specs.Replay.{What, Nothing, Pushed, Timed, replay}
 use Rattle.run_entries.specs.declared.entry.Entry.{Entry}
 use Rattle.run_entries.specs.declared.entry.Deed.TheVariants as deed
 use Rattle.run_entries.specs.Entries.{entries_of}
+use Rattle.run_entries.specs.Told.{counts_told}
 use Rattle.entry_run.specs.declared.kept.Kept.{Kept}
 
 -- after so many cycles more, where the last step may have pushed a number
@@ -13,6 +14,10 @@ idle cycles last t = record t { clock = t.clock + cycles; last = last }
 -- what is so after what is kept
 abbrev pub kept_by : (ℕ → ℤ) → Kept → Timed → Timed
 kept_by numbers k t = idle k.waiting k.pushed (replay numbers (entries_of k.entries.items) t)
+
+-- the miss counts of what is kept, of the mitigations with such marks
+abbrev pub counts_by : (ℕ → Bool) → (ℕ → ℤ) → Kept → Timed → List ℕ
+counts_by such numbers k t = counts_told such numbers (entries_of k.entries.items) t
 
 -- the last entry that is kept pushes no number
 abbrev pub IsClosed : Kept → Type 0

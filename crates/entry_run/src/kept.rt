@@ -1,9 +1,10 @@
 //! Entries that are kept joined.
 
-ghost use Rattle.std.specs.Prelude.{◌≡◌, ◌+◌, ◌<◌, ◌≤◌, ◌^◌, ◌++◌, [], ◌∷◌, ℕ, ℤ, OnOk, IfOk, None};
+ghost use Rattle.std.specs.Prelude.{◌≡◌, ◌+◌, ◌<◌, ◌≤◌, ◌^◌, ◌++◌, [], ◌∷◌, ℕ, ℤ, Bool, OnOk, IfOk, None};
 ghost use Rattle.first_replay.specs.Replay.{Timed, after, replay};
 ghost use Rattle.run_entries.specs.Entries.{what_of, entries_of};
-ghost use Rattle.entry_run.specs.Kept.{kept_by, IsClosed, number_first, still_waiting, last_what};
+ghost use Rattle.run_entries.specs.Told.{told_at, counts_told};
+ghost use Rattle.entry_run.specs.Kept.{kept_by, counts_by, IsClosed, number_first, still_waiting, last_what};
 
 use run_entries::entry::{Deed, Entry};
 use std::alloc::Global;
@@ -24,6 +25,7 @@ impl Kept {
     /// No entries.
     pub fn new(alloc: Global) -> Kept
         ensures none { (numbers : ℕ → ℤ) (t : Timed) → t.last ≡ None → kept_by numbers result t ≡ t }
+        ensures counts { (such : ℕ → Bool) (numbers : ℕ → ℤ) (t : Timed) → counts_by such numbers result t ≡ [] }
         ensures closed { IsClosed result }
         ensures waiting { result.waiting ≡ 0 }
     {
@@ -87,6 +89,10 @@ impl Kept {
         ensures step { OnOk result ((numbers : ℕ → ℤ) (t : Timed) → t.last ≡ None →
             kept_by numbers self.new t
             ≡ after numbers (what_of deed) ((kept_by numbers self.old t).clock + cost) (kept_by numbers self.old t)) }
+        ensures counts { OnOk result ((such : ℕ → Bool) (numbers : ℕ → ℤ) (t : Timed) → t.last ≡ None →
+            counts_by such numbers self.new t
+            ≡ counts_by such numbers self.old t ++ told_at such (what_of deed) ((kept_by numbers self.old t).clock + cost) (kept_by numbers self.old t)
+            (kept_by numbers self.old t).opened) }
         ensures closed { OnOk result (IsClosed self.new) }
         ensures waiting { OnOk result (self.new.waiting ≤ self.old.waiting + cost) }
     {
@@ -127,8 +133,10 @@ impl Kept {
 
     /// The entries, with one at the end for the cycles after the last. Fails only for want of memory.
     pub fn done(mut self) -> Result<Vec<Entry>, Memory>
-        ensures { IfOk result (λ es. (numbers : ℕ → ℤ) (t : Timed) → t.last ≡ None →
+        ensures same { IfOk result (λ es. (numbers : ℕ → ℤ) (t : Timed) → t.last ≡ None →
             replay numbers (entries_of es.items) t ≡ kept_by numbers self t) }
+        ensures counts { IfOk result (λ es. (such : ℕ → Bool) (numbers : ℕ → ℤ) (t : Timed) →
+            counts_told such numbers (entries_of es.items) t ≡ counts_by such numbers self t) }
     {
         let deed = self.last_deed();
         self.keep(0, deed)?;

@@ -30,7 +30,7 @@ one_follow F a b h k =
     ∙ ap (λ (n : ℕ). if n == length k.tokens - 1 then h.sorts else []) one.0
     ∙ ap (λ (z : List Sort). if k.taken == length k.tokens - 1 then z else []) one.1 ∙ sym k.are
 
-one_could : (F : List ℕ) (a b : List Sort) → CouldFollow F a → CouldFollow F b → a ≡ b
+pub one_could : (F : List ℕ) (a b : List Sort) → CouldFollow F a → CouldFollow F b → a ≡ b
 one_could F a b (inl h) (inl k) = one_follow F a b h k
 one_could F a b (inl h) (inr k) = absurd (k.0 h.tokens h.cut)
 one_could F a b (inr h) (inl k) = absurd (h.0 k.tokens k.cut)

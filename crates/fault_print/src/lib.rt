@@ -4,10 +4,10 @@
 
 pub mod faults;
 mod hints;
-mod marked;
-mod names;
-mod near;
-mod text;
+pub mod marked;
+pub mod names;
+pub mod near;
+pub mod text;
 mod token;
 mod traps;
-mod words;
+pub mod words;

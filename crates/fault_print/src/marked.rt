@@ -57,7 +57,7 @@ pub(crate) fn from_place(text: &[u8], pos: Pos) -> &[u8]
 }
 
 /// What stands before a place.
-pub(crate) fn before_place(text: &[u8], pos: Pos) -> &[u8]
+pub fn before_place(text: &[u8], pos: Pos) -> &[u8]
     ensures is { result.now ≡ before_place text.now pos }
     ensures short { length result.now ≤ length text.now }
 {
@@ -90,7 +90,8 @@ fn under(b: u8) -> u8
     if b == b'\t' { b'\t' } else { b' ' }
 }
 
-fn put_shown(out: &mut Vec<u8>, bytes: &[u8]) -> Result<(), AllocError>
+/// Appends bytes, and `?` for one that can't be shown.
+pub fn put_shown(out: &mut Vec<u8>, bytes: &[u8]) -> Result<(), AllocError>
     ensures { OnOk result (out.new.items ≡ out.old.items ++ map shown bytes.now) }
 {
     for b in bytes {
@@ -129,7 +130,7 @@ fn under_cut(n: usize) -> &'static [u8]
 }
 
 /// So many bytes, or as many as there are.
-pub(crate) fn front(bytes: &[u8], n: usize) -> &[u8]
+pub fn front(bytes: &[u8], n: usize) -> &[u8]
     ensures is { result.now ≡ take n bytes.now }
     ensures short { length result.now ≤ length bytes.now }
 {

@@ -14,8 +14,8 @@ use next_tokens::sort::{Sort, sort_in};
 use std::alloc::{AllocError, Global};
 use text_base::pos::{Memory, Pos};
 
-// Appends a name, if it is one of those that are listed.
-fn put_listed(out: &mut Vec<u8>, is: bool, word: &[u8]) -> Result<(), AllocError>
+/// Appends a name, if it is one of those that are listed.
+pub fn put_listed(out: &mut Vec<u8>, is: bool, word: &[u8]) -> Result<(), AllocError>
     ensures { OnOk result (out.new.items ≡ out.old.items ++ listed is word.now) }
 {
     if is {

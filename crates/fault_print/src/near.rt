@@ -58,7 +58,7 @@ fn is_one_off(w: &[u8], v: &[u8]) -> bool
 
 /// Whether two words are alike: one letter is another one, is too much or is missing, or two have changed their places. Large and small
 /// letters count as one.
-pub(crate) fn is_near(w: &[u8], v: &[u8]) -> bool
+pub fn is_near(w: &[u8], v: &[u8]) -> bool
     ensures { result ≡ is_near w.now v.now }
 {
     match w {

@@ -38,8 +38,11 @@ fn no_follow(alloc: Global, fault: TextFault) -> Result<Vec<Sort>, Memory>
     }
 }
 
-// What could stand behind a text; nothing where it has no tokens, or they don't begin what the grammar allows.
-fn could_follow(alloc: Global, text: &[u8]) -> Result<Vec<Sort>, Memory>
+/// What could stand behind a text; nothing where it has no tokens, or they don't begin what the grammar allows.
+///
+/// # Errors
+/// `Memory` is want of memory.
+pub fn could_follow(alloc: Global, text: &[u8]) -> Result<Vec<Sort>, Memory>
     requires { length text.now < 2 ^ 31 }
     ensures { IfOk result (λ v. CouldFollow text.now v.items) }
 {
@@ -107,7 +110,7 @@ pub(crate) fn put_byte_at(out: &mut Vec<u8>, text: &[u8]) -> Result<(), AllocErr
 }
 
 /// The word that begins at a place.
-pub(crate) fn word_there(text: &[u8], pos: Pos) -> &[u8]
+pub fn word_there(text: &[u8], pos: Pos) -> &[u8]
     ensures { result.now ≡ word_there text.now pos }
 {
     word_front(from_place(text, pos))

@@ -12,7 +12,8 @@ use std::alloc::AllocError;
 /// At most so many bytes of a word are told.
 const MOST_WORD: usize = 40;
 
-fn sort_text(sort: Sort) -> &'static [u8]
+/// How a sort of tokens is told: a word of the language as it is written.
+pub fn sort_text(sort: Sort) -> &'static [u8]
     ensures { result.now ≡ sort_text sort }
 {
     match sort {

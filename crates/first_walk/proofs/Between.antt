@@ -67,6 +67,6 @@ told_between numbers place low n high es one l k e =
     let m = mixed low n high l k in
     let same = (convex_counts m.i m.j a b c es at_start refl m.some (mixes m.i m.j numbers place low n high (firsts_mix m.i m.j low n high one l k m.mix))
     (told_same a b es at_start at_start tt e)).0 in (
-      sym (same_told a c es at_start at_start tt same),
+      λ such. sym (same_told such a c es at_start at_start tt same),
       (lower_replays a c es at_start refl (lower numbers place low n one l) same).1,
     )

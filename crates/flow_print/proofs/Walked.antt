@@ -9,7 +9,7 @@ use Rattle.text_base.specs.declared.pos.Pos.{Pos}
 use Rattle.mit_syntax.specs.declared.token.Token.{Token}
 use Rattle.mit_syntax.specs.Program.{Syntax}
 use Rattle.flow_path.specs.declared.step.Step.{Step}
-use Rattle.flow_print.specs.Places.{is_after, is_same, is_name, next_place, is_var, declared_from, kind_at}
+use Rattle.flow_print.specs.Places.{is_after, is_same, is_name, next_place, is_var, declared_from, kind_at, spelled, spelled_at}
 use Rattle.flow_print.specs.Lines.{step_lines, steps_lines}
 
 pub assoc : {A : Type 0} (xs ys zs : List A) → (xs ++ ys) ++ zs ≡ xs ++ (ys ++ zs)
@@ -41,6 +41,11 @@ module _ (T : List ℕ) (ts : List Token) (w : List ℕ) (i : ℕ) (t : Token) (
   pub kind_on : (q : Pos) → r ≡ is_same (get_or ts i t).pos q → kind_at (drop i ts) q ≡ kind_at (drop (i + 1) ts) q
   kind_on q e = ap (λ z. kind_at z q) (drop_more ts i t h) ∙ ap (λ (b : Bool). if b then (get_or ts i t).kind else kind_at (drop (i + 1) ts) q) (sym e ∙ no)
 
+  pub spelled_on : (q : Pos) → r ≡ is_same (get_or ts i t).pos q → spelled_at T (drop i ts) q ≡ spelled_at T (drop (i + 1) ts) q
+  spelled_on q e =
+      ap (λ z. spelled_at T z q) (drop_more ts i t h)
+      ∙ ap (λ (b : Bool). if b then spelled T (get_or ts i t) else spelled_at T (drop (i + 1) ts) q) (sym e ∙ no)
+
 -- the order of positions
 after_more : (p q r : Pos) → is_after p q ≡ true → is_after q r ≡ true → is_after p r ≡ true
 after_more p q r h k = grind (arith, nat_tests)
@@ -67,6 +72,14 @@ module _ (q : Pos) where
   kind_past (suc n) (t ∷ ts) h =
       kind_past n ts (λ k d a b. h (suc k) d (omega arith) (omega arith))
       ∙ sym (ap (λ (b : Bool). if b then t.kind else kind_at ts q) (not_same t.pos q (h 0 t (omega arith) (omega arith))))
+
+  pub spelled_past : (T : List ℕ) (n : ℕ) (ts : List Token) → AllWithin (λ (t : Token). is_after q t.pos ≡ true) ts 0 n
+      → spelled_at T (drop n ts) q ≡ spelled_at T ts q
+  spelled_past T zero ts h = refl
+  spelled_past T (suc n) [] h = refl
+  spelled_past T (suc n) (t ∷ ts) h =
+      spelled_past T n ts (λ k d a b. h (suc k) d (omega arith) (omega arith))
+      ∙ sym (ap (λ (b : Bool). if b then spelled T t else spelled_at T ts q) (not_same t.pos q (h 0 t (omega arith) (omega arith))))
 
   -- where positions rise, each token before one that stands before q does so too
   module _ (ts : List Token) (up : AllAdjacentBelow (λ (a b : Token). is_after b.pos a.pos ≡ true) ts (length ts)) where

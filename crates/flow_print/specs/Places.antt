@@ -66,3 +66,8 @@ reader k = noun k
 abbrev pub kind_at : List Token → Pos → TokenKind
 kind_at [] q = End
 kind_at (t ∷ ts) q = if is_same t.pos q then t.kind else kind_at ts q
+
+-- the bytes of the token at a position; none where none begins there
+abbrev pub spelled_at : List ℕ → List Token → Pos → List ℕ
+spelled_at text [] q = []
+spelled_at text (t ∷ ts) q = if is_same t.pos q then spelled text t else spelled_at text ts q

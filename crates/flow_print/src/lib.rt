@@ -1,7 +1,7 @@
 //! The lines that tell a chain of reasons.
 #![tactic(auto)]
 
-mod lines;
+pub mod lines;
 pub mod places;
 pub mod print;
-mod words;
+pub mod words;

@@ -16,7 +16,8 @@ use mit_syntax::program::Program;
 use std::alloc::{AllocError, Global};
 use text_base::pos::Pos;
 
-fn put_reads(
+/// Puts a line on where a command reads a variable.
+pub fn put_reads(
     out: &mut Vec<u8>,
     spelling: &Spelling,
     q: Pos,
@@ -79,7 +80,13 @@ fn put_about_label(
     Ok(())
 }
 
-fn put_time(out: &mut Vec<u8>, spelling: &Spelling, q: Pos, first: &[u8]) -> Result<(), AllocError>
+/// Puts a line on the time of a command.
+pub fn put_time(
+    out: &mut Vec<u8>,
+    spelling: &Spelling,
+    q: Pos,
+    first: &[u8],
+) -> Result<(), AllocError>
     ensures { OnOk result (out.new.items ≡ out.old.items ++ time_line spelling.now.tokens.now q first.now) }
 {
     let command = noun(spelling.kind_at(q));
@@ -87,7 +94,8 @@ fn put_time(out: &mut Vec<u8>, spelling: &Spelling, q: Pos, first: &[u8]) -> Res
     Ok(())
 }
 
-fn put_read_label(
+/// Puts a line on the read label of a command.
+pub fn put_read_label(
     out: &mut Vec<u8>,
     spelling: &Spelling,
     q: Pos,
@@ -101,7 +109,13 @@ fn put_read_label(
     Ok(())
 }
 
-fn put_reader(out: &mut Vec<u8>, spelling: &Spelling, q: Pos, name: &[u8]) -> Result<(), AllocError>
+/// Puts a line on what a command reads before another one.
+pub fn put_reader(
+    out: &mut Vec<u8>,
+    spelling: &Spelling,
+    q: Pos,
+    name: &[u8],
+) -> Result<(), AllocError>
     ensures { OnOk result (out.new.items ≡ out.old.items ++ reader_line spelling.now.text.now spelling.now.tokens.now q name.now) }
 {
     let reads = reader(spelling.kind_at(q));
@@ -111,7 +125,7 @@ fn put_reader(out: &mut Vec<u8>, spelling: &Spelling, q: Pos, name: &[u8]) -> Re
 }
 
 /// Puts a line at a place.
-fn put_line_at(out: &mut Vec<u8>, q: Pos, words: &[u8], last: &[u8]) -> Result<(), AllocError>
+pub fn put_line_at(out: &mut Vec<u8>, q: Pos, words: &[u8], last: &[u8]) -> Result<(), AllocError>
     ensures { OnOk result (out.new.items ≡ out.old.items ++ (place_text q ++ line words.now last.now)) }
 {
     put_place(out, q)?;
@@ -260,7 +274,7 @@ fn put_command_side(
 }
 
 /// Puts the right side.
-fn put_side(
+pub fn put_side(
     out: &mut Vec<u8>,
     spelling: &Spelling,
     p: &Program,
@@ -326,7 +340,7 @@ fn put_place_if(out: &mut Vec<u8>, place: Option<Pos>) -> Result<(), AllocError>
 }
 
 /// Puts where a chain begins.
-pub(crate) fn put_first(
+pub fn put_first(
     out: &mut Vec<u8>,
     spelling: &Spelling,
     spot: &Spot,

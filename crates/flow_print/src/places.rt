@@ -3,7 +3,7 @@
 ghost use Rattle.std.specs.Prelude.{◌≡◌, ◌≤◌, ◌&&◌, ℕ, List, true, length, IsTrue};
 ghost use Rattle.std.specs.List.{AllAdjacentBelow, AllWithin};
 ghost use Rattle.mit_syntax.specs.declared.token.Token.{Token as AToken};
-ghost use Rattle.flow_print.specs.Places.{is_after, is_same, spelled, is_name_kind, is_name, next_place, is_var, declared_place, kind_at};
+ghost use Rattle.flow_print.specs.Places.{is_after, is_same, spelled, is_name_kind, is_name, next_place, is_var, declared_place, kind_at, spelled_at};
 
 use mit_syntax::token::{Keyword, Token, TokenKind};
 use text_base::pos::Pos;
@@ -93,19 +93,31 @@ pub fn kind_among(tokens: &[Token], q: Pos) -> TokenKind
     TokenKind::End
 }
 
+/// The bytes of the token at a position among tokens; none where none begins there.
+fn spelled_among<'a>(text: &'a [u8], tokens: &[Token], q: Pos) -> &'a [u8]
+    ensures { result.now ≡ spelled_at text.now tokens.now q }
+{
+    for t in tokens {
+        if is_same(t.pos, q) {
+            return spelled(text, t);
+        }
+    }
+    b"".as_slice()
+}
+
 /// A text and its tokens, among which places are found. Where the positions of the tokens rise, as those of a text do,
 /// a search begins near its place.
 #[derive(Drop)]
-pub(crate) struct Spelling<'a> {
-    pub(crate) text: &'a [u8],
-    pub(crate) tokens: &'a [Token],
+pub struct Spelling<'a> {
+    pub text: &'a [u8],
+    pub tokens: &'a [Token],
     rise: bool,
     ghost risen: { IsTrue rise → AllAdjacentBelow (λ (a b : AToken). is_after b.pos a.pos ≡ true) tokens.now (length tokens.now) },
 }
 
 impl<'a> Spelling<'a> {
     /// Goes once through the tokens, to see whether their positions rise.
-    pub(crate) fn new(text: &'a [u8], tokens: &'a [Token]) -> Spelling<'a>
+    pub fn new(text: &'a [u8], tokens: &'a [Token]) -> Spelling<'a>
         ensures text { result.text.now ≡ text.now }
         ensures tokens { result.tokens.now ≡ tokens.now }
     {
@@ -129,13 +141,14 @@ impl<'a> Spelling<'a> {
     fn near(&self, q: Pos) -> &[Token]
         ensures next { (text name : List ℕ) → next_place text result.now q name ≡ next_place text self.now.tokens.now q name }
         ensures kind { kind_at result.now q ≡ kind_at self.now.tokens.now q }
+        ensures word { (text : List ℕ) → spelled_at text result.now q ≡ spelled_at text self.now.tokens.now q }
     {
         let passed = self.passed(q);
         &self.tokens[passed..]
     }
 
     /// The first place of a name after a position, or else that position.
-    pub(crate) fn next_place(&self, q: Pos, name: &[u8]) -> Pos
+    pub fn next_place(&self, q: Pos, name: &[u8]) -> Pos
         ensures { result ≡ next_place self.now.text.now self.now.tokens.now q name.now }
     {
         next_among(self.text, self.near(q), q, name)
@@ -148,8 +161,15 @@ impl<'a> Spelling<'a> {
         kind_among(self.near(q), q)
     }
 
+    /// The bytes of the token at a position; none where none begins there.
+    pub fn spelled_at(&self, q: Pos) -> &'a [u8]
+        ensures { result.now ≡ spelled_at self.now.text.now self.now.tokens.now q }
+    {
+        spelled_among(self.text, self.near(q), q)
+    }
+
     /// Where a name is declared: its first place after `var`.
-    pub(crate) fn declared_place(&self, name: &[u8]) -> Option<Pos>
+    pub fn declared_place(&self, name: &[u8]) -> Option<Pos>
         ensures { result ≡ declared_place self.now.text.now self.now.tokens.now name.now }
     {
         let mut after = false;

@@ -40,7 +40,7 @@ pub(crate) fn reader(kind: TokenKind) -> &'static [u8]
 }
 
 /// How the right side of a condition stands to a part of its left side.
-pub(crate) fn bound(how: How) -> &'static [u8]
+pub fn bound(how: How) -> &'static [u8]
     ensures { result.now ≡ bound how }
 {
     match how {
@@ -74,7 +74,7 @@ pub(crate) fn put_place(out: &mut Vec<u8>, q: Pos) -> Result<(), AllocError>
 }
 
 /// Puts words, and the last words of a line.
-pub(crate) fn put_line(out: &mut Vec<u8>, words: &[u8], last: &[u8]) -> Result<(), AllocError>
+pub fn put_line(out: &mut Vec<u8>, words: &[u8], last: &[u8]) -> Result<(), AllocError>
     ensures { OnOk result (out.new.items ≡ out.old.items ++ line words.now last.now) }
 {
     out.extend_from_slice(words)?;
@@ -84,7 +84,7 @@ pub(crate) fn put_line(out: &mut Vec<u8>, words: &[u8], last: &[u8]) -> Result<(
 }
 
 /// Puts the name of a label.
-pub(crate) fn put_label(out: &mut Vec<u8>, labels: &Lattice, label: Label) -> Result<(), AllocError>
+pub fn put_label(out: &mut Vec<u8>, labels: &Lattice, label: Label) -> Result<(), AllocError>
     ensures { OnOk result (out.new.items ≡ out.old.items ++ label_text labels.now label.number) }
 {
     if u32::from(label.number) < labels.size() {
@@ -132,7 +132,7 @@ fn put_written(out: &mut Vec<u8>, p: &Program, spot: &Spot) -> Result<(), AllocE
 }
 
 /// What stands at a spot.
-pub(crate) fn spot_text(alloc: Global, p: &Program, spot: &Spot) -> Result<Vec<u8>, AllocError>
+pub fn spot_text(alloc: Global, p: &Program, spot: &Spot) -> Result<Vec<u8>, AllocError>
     ensures { IfOk result (λ v. v.items ≡ spot_text p.now spot.now) }
 {
     let mut out = Vec::new(alloc);
@@ -141,7 +141,7 @@ pub(crate) fn spot_text(alloc: Global, p: &Program, spot: &Spot) -> Result<Vec<u
 }
 
 /// The label that the program writes at a spot.
-pub(crate) fn written_text(alloc: Global, p: &Program, spot: &Spot) -> Result<Vec<u8>, AllocError>
+pub fn written_text(alloc: Global, p: &Program, spot: &Spot) -> Result<Vec<u8>, AllocError>
     ensures { IfOk result (λ v. v.items ≡ written_text p.now spot.now) }
 {
     let mut out = Vec::new(alloc);

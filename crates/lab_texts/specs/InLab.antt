@@ -6,14 +6,16 @@ use Rattle.tool_texts.specs.declared.status.Status.TheVariants as status
 -- the lab's usage text
 unfoldable pub lab_usage_text : List ℕ
 lab_usage_text =
-    codes "usage: lab why FILE [--of NAME]\n"
+    codes "usage: lab why FILE [STARTS] [--of NAME]\n"
     ++ (codes "       lab seen FILE STARTS --observer L [--env flat|part|part2] [--machine M] [--budget T] [--refused]\n"
     ++ (codes "       lab timeline FILE STARTS [--env flat|part|part2] [--machine M] [--budget T] [--observer L] [--refused]\n"
     ++ (codes "       lab bound FILE STARTS --observer L [--env flat|part|part2] [--machine M] [--budget T]\n"
     ++ (codes "       lab steady FILE --observer L [--parts P] [--constant NAMES] [--whole]\n"
     ++ (codes "       lab leak FILE STARTS --observer L [--env flat|part|part2] [--machine M] [--budget T]\n"
+    ++ (codes "       lab tune FILE STARTS --observer L [--env flat|part|part2] [--machine M] [--budget T] [--of #K]\n"
+    ++ (codes "       lab check FILE --json\n"
     ++ (codes "       lab help [COMMAND]\n"
-    ++ codes "       lab version\n"))))))
+    ++ codes "       lab version\n"))))))))
 
 -- what the lab tells in place of a text of the tool
 abbrev pub lab_text : Status → List ℕ → List ℕ

@@ -4,5 +4,6 @@ pub mod RiseLemmas
 pub mod MachineEnds
 pub mod AskedLemmas
 pub mod WhyLemmas
+pub mod StartsLemmas
 pub mod EndsLemmas
 pub mod OneAnswer

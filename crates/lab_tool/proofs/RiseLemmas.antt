@@ -1,5 +1,5 @@
 -- A question after a machine: its files hold what they held, and a count that rose since then rose since the call began.
-use Rattle.std.proofs.Common.{ℕ, List, Bool, Option, Some, None, inl, inr}
+use Rattle.std.proofs.Common.{ℕ, List, Bool, Option, Some, None, refl, inl, inr}
 use Rattle.label_lattice.specs.declared.label.Label.{Label}
 use Rattle.mit_syntax.specs.Program.{Syntax}
 use Rattle.timing_types.specs.Labelled.{LabelledProgram}
@@ -15,11 +15,14 @@ use Rattle.tool_stages.proofs.StopLemmas.{start_rise}
 use Rattle.lab_bound.specs.Answer.{HasBound}
 use Rattle.lab_leak.specs.Answer.{Leaks}
 use Rattle.space_stage.proofs.Stops.{given_rise}
+use Rattle.lab_check.proofs.FoundLemmas.{check_rise}
 use Rattle.lab_runs.specs.Shown.{OfRuns, ShowsRuns}
 use Rattle.lab_seen.specs.Seen.{AreLines}
 use Rattle.lab_timeline.specs.Timed.{AreTimelines}
+use Rattle.lab_tune.specs.Answer.{HasTune}
 use Rattle.lab_why.specs.Faulty.{WhyStops}
-use Rattle.lab_words.specs.QuestionAsked.{Asked, why, seen, timeline, bound, steady, leak, help, version}
+use Rattle.lab_why.proofs.StartsLemmas.{taken_since}
+use Rattle.lab_words.specs.QuestionAsked.{Asked, why, why_starts, seen, timeline, bound, steady, leak, tune, check, help, version}
 use Rattle.lab_tool.specs.Answers.{IsAnswerIn}
 
 program_rise : (R R' : Type 0) (c : Option (Option (List ℕ))) (s : Status) (t : List ℕ) → (R → R') → ProgramStops R c s t → ProgramStops R' c s t
@@ -97,6 +100,10 @@ module _ (Rises Rises' : List ℕ → Type 0) (content : Content) (rise : (name 
   answer_rises e (why file None) s t (inr h) = inr h
   answer_rises e (why file (Some name)) s t (m, inl h, is) = (m, inl (program_rise (Rises file) (Rises' file) (content file) s m (rise file) h), is)
   answer_rises e (why file (Some name)) s t (m, inr h, is) = (m, inr h, is)
+  answer_rises e (why_starts file starts) s t (inl h) = inl (why_rise (Rises file) (Rises' file) (content file) s t (rise file) h)
+  answer_rises e (why_starts file starts) s t (inr (p, reads, inl h)) = inr (p, reads, inl h)
+  answer_rises e (why_starts file starts) s t (inr (p, reads, inr (q, types, h))) =
+      inr (p, reads, inr (q, types, taken_since (Rises starts) (Rises' starts) (content starts) (content starts) p s t refl (rise starts) h))
   answer_rises e (seen file starts observer machine budget refused) s t h =
       (h.0, shows_rise refused file starts (Some observer) (AreLines e budget) s h.0 h.1, h.2)
   answer_rises e (timeline file starts observer machine budget refused) s t h =
@@ -109,5 +116,9 @@ module _ (Rises Rises' : List ℕ → Type 0) (content : Content) (rise : (name 
   answer_rises e (steady file observer parts constant whole) s t (m, inr (costing, of, inr h), is) = (m, inr (costing, of, inr h), is)
   answer_rises e (leak file starts observer machine budget) s t h =
       (h.0, leaks_rise e budget file starts observer s h.0 h.1, h.2)
+  answer_rises e (tune file starts observer machine budget mark) s t h =
+      (h.0, prepares_rise file starts observer (λ p q o code ss. HasTune e budget mark q o ss) s h.0 h.1, h.2)
+  answer_rises e (check file) s t (inl h) = inl (check_rise (Rises file) (Rises' file) (content file) s t (rise file) h)
+  answer_rises e (check file) s t (inr h) = inr h
   answer_rises e (help command) s t h = h
   answer_rises e version s t h = h

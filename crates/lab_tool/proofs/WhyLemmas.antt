@@ -13,6 +13,8 @@ use Rattle.tool_stages.specs.Content.{Content, IsKnown}
 use Rattle.tool_stages.specs.Goes.{IsTypable}
 use Rattle.tool_stages.proofs.GoesLemmas.{program_goes}
 use Rattle.tool_stages.proofs.OneLemmas.{one_program, same_labelled}
+use Rattle.lab_check.specs.Answers.{IsCheckAnswer}
+use Rattle.lab_check.proofs.OneFound.{answer_told}
 use Rattle.lab_why.specs.Answers.{ReasonStops, IsWhyAnswer}
 use Rattle.lab_why.specs.Faulty.{WhyStops}
 use Rattle.lab_why.proofs.FaultLemmas.{why_goes}
@@ -87,6 +89,12 @@ why_ends Rises content file s status.Disagree t n known goes h = absurd goes
 why_ends Rises content file s status.Unfinished t n known goes h = absurd goes
 why_ends Rises content file s status.Memory t n known goes h = absurd goes
 why_ends Rises content file s status.Rejected t n known goes h = absurd goes
+
+-- `check` ends as `why` does
+pub check_ends : (Rises : List ℕ → Type 0) (content : Content) (file : List ℕ) (s e : Status) (t : List ℕ) → (Rises file → ⊥)
+    → IsKnown (content file) → WhyGoes (content file) e → IsCheckAnswer Rises content file s t → s ≡ e
+check_ends Rises content file s e t n known goes h =
+    let told = answer_told Rises content file s t h in why_ends Rises content file s e told.0 n known goes told.1
 
 pub name_stops : (p : Syntax) (w : List ℕ) (s : Status) (t : List ℕ) → NameStops p w s t → (s ≡ status.Usage) × (named p w ≡ None)
     × (t ≡ usage_text)

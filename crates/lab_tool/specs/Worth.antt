@@ -1,4 +1,8 @@
 -- What the answers are worth, beside that they are the answers.
+use Rattle.label_lattice.specs.Order.{Order}
+use Rattle.first_image.specs.Tuned.{TunedRuns}
+use Rattle.tool_stages.specs.declared.envs.Environment.{Environment}
+use Rattle.tool_stages.specs.Envs.{environment}
 use Rattle.lab_bound.specs.Enough.{AllAreEnough}
 use Rattle.lab_bound.specs.Others.{AllBoundOthers, AllBoundOthersOwn}
 use Rattle.lab_seen.specs.Bounded.{FieldsAreFew, FieldsAreWithinCut}
@@ -15,3 +19,5 @@ pub record AnswersAreWorth : Type 0 where
   pub few_cut : FieldsAreWithinCut
   -- a chain of `why` refutes every labelling
   pub refuted : ChainsRefute
+  -- what `tune` tells of runs is so of the code that has the other number
+  pub tuned : (e : Environment) (order : Order) → TunedRuns (environment e order)

@@ -16,7 +16,7 @@ pub fn one_answer()
 {}
 
 /// A law: on machines with partitions the printed counts bound what starts show that agree, those of a file and others; what
-/// `seen` writes is as few; and a chain of `why` refutes every labelling.
+/// `seen` writes is as few; a chain of `why` refutes every labelling; and what `tune` tells of runs is so of the code that has the other number.
 pub fn answers_are_worth()
     ensures { AnswersAreWorth }
 {

@@ -15,12 +15,15 @@ ghost use Rattle.lab_tool.specs.Worth.{AnswersAreWorth};
 
 use crate::laws::answers_are_worth;
 use lab_bound::bound::bound;
+use lab_check::check::check;
 use lab_leak::leak::leak;
 use lab_seen::seen::seen;
 use lab_steady::steady::steady;
 use lab_texts::finish::{stop, usage};
 use lab_timeline::timeline::timeline;
+use lab_tune::tune::tune;
 use lab_why::of::why_of;
+use lab_why::starts::why_starts;
 use lab_why::why::why;
 use lab_words::help::{help_text, version_text};
 use lab_words::machine::Machine;
@@ -59,6 +62,7 @@ fn obey_in<S: Shelf, W: Sink>(
             None => why(alloc, shelf, out, file),
             Some(name) => why_of(alloc, shelf, out, file, name),
         },
+        Question::WhyStarts { file, starts } => why_starts(alloc, shelf, out, file, starts),
         Question::Seen {
             file,
             starts,
@@ -108,6 +112,18 @@ fn obey_in<S: Shelf, W: Sink>(
             let setting = Setting { env, budget };
             leak(alloc, shelf, out, file, starts, observer, setting)
         }
+        Question::Tune {
+            file,
+            starts,
+            observer,
+            machine: _,
+            budget,
+            mark,
+        } => {
+            let setting = Setting { env, budget };
+            tune(alloc, shelf, out, file, starts, observer, setting, mark)
+        }
+        Question::Check { file } => check(alloc, shelf, out, file),
         Question::Help { command } => finish(out, help_text(command), Status::Done),
         Question::Version => finish(out, version_text(), Status::Done),
     }
@@ -146,7 +162,8 @@ fn machine_in<'a>(question: Question<'a>) -> Machine<'a>
         Question::Seen { machine, .. }
         | Question::Timeline { machine, .. }
         | Question::Bound { machine, .. }
-        | Question::Leak { machine, .. } => machine,
+        | Question::Leak { machine, .. }
+        | Question::Tune { machine, .. } => machine,
         _ => Machine::Named(EnvName::Part),
     }
 }
@@ -214,7 +231,7 @@ fn refuse<W: Sink>(alloc: Global, out: &mut W, words: &[String]) -> Status
 /// written.
 ///
 /// `worth`: on machines with partitions the printed counts bound what starts show that agree, those of a file and others;
-/// what `seen` writes is as few; and a chain of `why` refutes every labelling.
+/// what `seen` writes is as few; a chain of `why` refutes every labelling; and what `tune` tells of runs is so of the code that has the other number.
 pub fn lab_main<S: Shelf, W: Sink>(
     alloc: Global,
     words: &[String],

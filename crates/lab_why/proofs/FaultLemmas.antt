@@ -4,7 +4,8 @@ use Rattle.label_lattice.specs.Order.{IsOrder}
 use Rattle.mit_syntax.specs.declared.fault.TextFault.{TextFault}
 use Rattle.mit_syntax.specs.declared.token.Token.{Token}
 use Rattle.mit_syntax.specs.Cut.{AreTokens, IsFault}
-use Rattle.mit_syntax.specs.Program.{Syntax}
+use Rattle.mit_syntax.specs.Plan.{count, mitigates}
+use Rattle.mit_syntax.specs.Program.{Syntax, plan_of}
 use Rattle.mit_syntax.proofs.OneFault.{no_tokens, one_fault}
 use Rattle.mit_syntax.proofs.OneList.{one_list}
 use Rattle.mit_parser.specs.declared.fault.ParseFault.{ParseFault}
@@ -16,7 +17,7 @@ use Rattle.fault_print.specs.Faults.{TellsText, TellsTokens}
 use Rattle.fault_print.proofs.OneTold.{one_text, one_tokens}
 use Rattle.tool_texts.specs.declared.status.Status.{Status}
 use Rattle.tool_texts.specs.declared.status.Status.TheVariants as status
-use Rattle.tool_texts.specs.Texts.{program}
+use Rattle.tool_texts.specs.Texts.{program, accepted_line}
 use Rattle.tool_stages.specs.Fetches.{FileStops}
 use Rattle.tool_stages.specs.Stages.{Then, Reads, ProgramStops}
 use Rattle.tool_stages.specs.Content.{IsKnown}
@@ -34,17 +35,12 @@ pub if_ok : {A E : Type 0} (r : Result A E) (P Q : A → Type 0) → ((v : A) �
 if_ok (Ok v) P Q f h = f v h
 if_ok (Err e) P Q f h = h
 
-pub explained_program : (c : Option (Option (List ℕ))) (p : Syntax) (x : Explained) → Reads c p → IsTypeAnswer c p (status_told x) (text_told x)
-    → IsExplained c x
-explained_program c p (explained.Accepted line) r h = (p, r, h)
-explained_program c p (explained.Refused lines) r h = (p, r, h)
-explained_program c p (explained.Faulty lines) r (inl h) = absurd h
-explained_program c p (explained.Faulty lines) r (inr h) = let e : status.Syntax ≡ status.Done = h.2.0 in cc
-
 pub explained_answers : (R : Type 0) (c : Option (Option (List ℕ))) (x : Explained) → IsExplained c x
     → Then (WhyStops R c) (Reads c) (λ p. IsTypeAnswer c p) (status_told x) (text_told x)
-explained_answers R c (explained.Accepted line) h = inr h
-explained_answers R c (explained.Refused lines) h = inr h
+explained_answers R c (explained.Accepted q) h =
+    let line = ap (λ (z : Syntax). accepted_line (count (plan_of z)) (mitigates (plan_of z))) h.2.program in
+    inr (h.0, h.1, inr (q.labelled, h.2, (refl, line)))
+explained_answers R c (explained.Refused lines) h = inr (h.0, h.1, inl h.2)
 explained_answers R c (explained.Faulty lines) h = inl h
 
 -- a file that gives no bytes

@@ -4,3 +4,4 @@ pub mod SpelledLemmas
 pub mod OriginLemmas
 pub mod OneReason
 pub mod OneOrigins
+pub mod StartsLemmas

@@ -17,10 +17,9 @@ use Rattle.tool_stages.specs.Stages.{Reads}
 use Rattle.lab_why.specs.declared.explained.Explained.{Explained}
 use Rattle.lab_why.specs.declared.faulty.Spelled.{Spelled}
 use Rattle.lab_why.specs.declared.faulty.Spelled.TheVariants.{Spells}
-use Rattle.lab_why.specs.Answers.{IsTypeAnswer}
-use Rattle.lab_why.specs.Explained.{status_told, text_told, IsExplained}
+use Rattle.lab_why.specs.Explained.{IsExplained}
 use Rattle.lab_why.specs.Faulty.{HasTextTold, HasTokensTold, IsSpelled}
-use Rattle.lab_why.proofs.FaultLemmas.{if_ok, explained_program}
+use Rattle.lab_why.proofs.FaultLemmas.{if_ok}
 
 module _ (T : List ℕ) (short : length T ≤ limit) where
   -- a text that has no tokens; a and b are the pieces that are written
@@ -57,8 +56,8 @@ module _ (T : List ℕ) (short : length T ≤ limit) where
 -- the program of a text is explained
 pub spells_explained : (T : List ℕ) (s : Spelled) (p : Syntax) (r : Result Explained Memory)
     → ((c : Option (Option (List ℕ))) → IsTold c T → IsSpelled c T s) → s ≡ Spells p
-    → IfOk r (λ x. (c : Option (Option (List ℕ))) (reads : Reads c p) → reads.bytes ≡ T → IsTypeAnswer c p (status_told x) (text_told x))
+    → IfOk r (λ x. (c : Option (Option (List ℕ))) (reads : Reads c p) → reads.bytes ≡ T → IsExplained c x)
     → IfOk r (λ x. (c : Option (Option (List ℕ))) → IsTold c T → IsExplained c x)
 spells_explained T s p r h e k = if_ok r _ _ (λ x answers c are.
     let reads : (reads : Reads c p) × (reads.bytes ≡ T) = subst (λ (z : Spelled). IsSpelled c T z) e (h c are) in
-    explained_program c p x reads.0 (answers c reads.0 reads.1)) k
+    answers c reads.0 reads.1) k

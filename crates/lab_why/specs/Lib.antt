@@ -5,3 +5,4 @@ pub mod Answers
 pub mod Explained
 pub mod Names
 pub mod Origins
+pub mod Starts

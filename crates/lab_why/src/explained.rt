@@ -8,8 +8,7 @@ ghost use Rattle.tool_texts.specs.Ends.{IsStop};
 ghost use Rattle.tool_texts.specs.Texts.{program};
 ghost use Rattle.tool_stages.specs.Fetches.{Fetches, FileStops};
 ghost use Rattle.tool_stages.specs.Stages.{Reads};
-ghost use Rattle.lab_why.specs.Answers.{IsTypeAnswer, IsWhyAnswer};
-ghost use Rattle.lab_why.specs.Explained.{status_told, text_told, IsExplained};
+ghost use Rattle.lab_why.specs.Explained.{IsExplained};
 
 use crate::faulty::{Spelled, spelling};
 use crate::refused::refusal_text;
@@ -19,17 +18,16 @@ use mit_syntax::program::Program;
 use mit_syntax::tokens::tokens;
 use std::alloc::Global;
 use text_base::pos::Memory;
-use tim_base::line::Line;
 use tim_base::shelf::Shelf;
+use timing_types::typed::Typed;
 use tool_stages::file::bytes_of;
-use tool_texts::lines::accepted;
 use tool_texts::stop::{Stop, no_memory};
 
 /// What is told of a program.
 #[derive(Drop)]
 pub enum Explained {
-    /// It is accepted: the line that tells so.
-    Accepted(Line),
+    /// It is accepted: the program with its least labels.
+    Accepted(Typed),
     /// It is refused: the lines that tell why.
     Refused(Vec<u8>),
     /// The text is no program: the lines that tell why.
@@ -40,17 +38,17 @@ pub enum Explained {
 fn explain_program(alloc: Global, text: &[u8], program: Program) -> Result<Explained, Memory>
     requires { length text.now ≤ limit }
     ensures { IfOk result (λ x. (content : Option (Option (List ℕ))) (reads : Reads content program) → reads.bytes ≡ text.now
-        → IsTypeAnswer content program (status_told x) (text_told x)) }
+        → IsExplained content x) }
 {
-    let line = accepted(program.commands(), program.mitigates());
     let Ok(labelled) = infer(alloc, program) else {
         return Err(Memory);
     };
     let Ok(checked) = check_why(alloc, labelled) else {
         return Err(Memory);
     };
-    let Err(refusal) = checked else {
-        return Ok(Explained::Accepted(line));
+    let refusal = match checked {
+        Ok(typed) => return Ok(Explained::Accepted(typed)),
+        Err(refusal) => refusal,
     };
     // The text spells a program, so it has tokens.
     let Ok(tokens) = tokens(alloc, text) else {
@@ -70,8 +68,7 @@ pub fn explain<S: Shelf>(alloc: Global, shelf: &mut S, file: &str) -> Result<Exp
     ensures same { KeepsFiles (S.content shelf.old) (S.content shelf.new) }
     ensures later { NoCountFalls (S.faults shelf.old) (S.faults shelf.new) }
     ensures log { Fetches (file.now ∷ []) (S.log shelf.old) (S.log shelf.new) result }
-    ensures told { IfOk result (λ x. IsWhyAnswer (λ name. Rose (S.faults shelf.old name) (S.faults shelf.new name)) (S.content shelf.old) file.now
-        (status_told x) (text_told x)) }
+    ensures told { IfOk result (IsExplained (S.content shelf.old file.now)) }
     ensures stop { IfErr result (IsStop (FileStops (Rose (S.faults shelf.old file.now) (S.faults shelf.new file.now)) (S.content shelf.old file.now)
         program)) }
 {

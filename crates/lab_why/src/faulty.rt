@@ -27,8 +27,8 @@ pub enum Spelled {
     Faulty(Vec<u8>),
 }
 
-// A line, and what stands behind it.
-fn joined(alloc: Global, line: &[u8], more: &[u8]) -> Result<Vec<u8>, Memory>
+/// A line, and what stands behind it.
+pub(crate) fn joined(alloc: Global, line: &[u8], more: &[u8]) -> Result<Vec<u8>, Memory>
     ensures { IfOk result (λ v. v.items ≡ line.now ++ more.now) }
 {
     let mut whole = Vec::new(alloc);

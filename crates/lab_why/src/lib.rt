@@ -10,4 +10,5 @@ pub mod of;
 pub mod origins;
 mod refused;
 pub mod source;
+pub mod starts;
 pub mod why;

@@ -12,6 +12,7 @@ use std::alloc::Global;
 use tim_base::shelf::Shelf;
 use tim_base::sink::Sink;
 use tool_texts::finish::{finish, stop};
+use tool_texts::lines::accepted;
 use tool_texts::status::Status;
 
 /// Tells whether the program of a file is accepted, and if not, which condition is broken first and by which chain of
@@ -28,7 +29,11 @@ pub fn why<S: Shelf, W: Sink>(alloc: Global, shelf: &mut S, out: &mut W, file: &
     ensures fetched { HasFetched (file.now ∷ []) result (S.log shelf.old) (S.log shelf.new) }
 {
     match explain(alloc, shelf, file) {
-        Ok(Explained::Accepted(line)) => finish(out, line.bytes(), Status::Done),
+        Ok(Explained::Accepted(typed)) => {
+            let program = typed.labelled().program();
+            let line = accepted(program.commands(), program.mitigates());
+            finish(out, line.bytes(), Status::Done)
+        }
         Ok(Explained::Refused(lines)) => finish(out, lines.as_slice(), Status::Refused),
         Ok(Explained::Faulty(lines)) => finish(out, lines.as_slice(), Status::Syntax),
         Err(e) => stop(out, e),

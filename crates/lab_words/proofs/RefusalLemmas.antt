@@ -7,7 +7,7 @@ use Rattle.clap.specs.Faults.{defaults_fault, walk_fault}
 use Rattle.clap.specs.Walk.{is_empty}
 use Rattle.clap.specs.Words.{App, Row, Text, fault_of, is_simple_and_free, matches_of}
 use Rattle.lab_words.specs.declared.verbs.Verb.{Verb}
-use Rattle.lab_words.specs.declared.verbs.Verb.TheVariants.{Why, Seen, Timeline, Bound, Steady, Leak, Help, Version}
+use Rattle.lab_words.specs.declared.verbs.Verb.TheVariants.{Why, Seen, Timeline, Bound, Steady, Leak, Tune, Check, Help, Version}
 use Rattle.lab_words.specs.QuestionForms.{form_app}
 use Rattle.lab_words.specs.Refusal.{StandUpTo, has_values, loosened, is_taken, stands, wrong_line, wrong_line_at}
 
@@ -31,6 +31,8 @@ loose_simple Timeline a e = ap is_simple_and_free e
 loose_simple Bound a e = ap is_simple_and_free e
 loose_simple Steady a e = ap is_simple_and_free e
 loose_simple Leak a e = ap is_simple_and_free e
+loose_simple Tune a e = ap is_simple_and_free e
+loose_simple Check a e = ap is_simple_and_free e
 loose_simple Help a e = ap is_simple_and_free e
 loose_simple Version a e = ap is_simple_and_free e
 
@@ -56,6 +58,8 @@ none_taken Timeline = refl
 none_taken Bound = refl
 none_taken Steady = refl
 none_taken Leak = refl
+none_taken Tune = refl
+none_taken Check = refl
 none_taken Help = refl
 none_taken Version = refl
 

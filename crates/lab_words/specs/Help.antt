@@ -2,7 +2,7 @@
 use Rattle.std.specs.Prelude.{◌++◌, Option, Some, None, codes}
 use Rattle.clap.specs.Words.{Text}
 use Rattle.lab_words.specs.declared.verbs.Verb.{Verb}
-use Rattle.lab_words.specs.declared.verbs.Verb.TheVariants.{Why, Seen, Timeline, Bound, Steady, Leak, Help, Version}
+use Rattle.lab_words.specs.declared.verbs.Verb.TheVariants.{Why, Seen, Timeline, Bound, Steady, Leak, Tune, Check, Help, Version}
 
 -- a line for each command
 unfoldable pub commands_text : Text
@@ -13,16 +13,19 @@ commands_text =
     ++ (codes "lab bound     an audit, the sharp count\n"
     ++ (codes "lab steady    whether code is constant in time\n"
     ++ (codes "lab leak      what these runs tell, exactly\n"
+    ++ (codes "lab tune      which first predictions are best\n"
+    ++ (codes "lab check     what is found, as JSON\n"
     ++ (codes "lab help      these lines, or the form of one command\n"
-    ++ codes "lab version   the number of this version\n"))))))
+    ++ codes "lab version   the number of this version\n"))))))))
 
 -- The form of each command, what it is for, and a line for each of its words and options.
 unfoldable pub why_help : Text
 why_help =
-    codes "usage: lab why FILE [--of NAME]\n"
+    codes "usage: lab why FILE [STARTS] [--of NAME]\n"
     ++ (codes "reasons for a refusal or a label\n"
     ++ (codes "  FILE        program\n"
-    ++ codes "  --of        name: of one name\n"))
+    ++ (codes "  STARTS      starts\n"
+    ++ codes "  --of        name: of one name\n")))
 
 unfoldable pub seen_help : Text
 seen_help =
@@ -80,6 +83,25 @@ leak_help =
     ++ (codes "  --machine   machine file: a machine in place of an environment\n"
     ++ codes "  --budget    cycles: the last cycle; 1000000 where it is left out\n"))))))
 
+unfoldable pub tune_help : Text
+tune_help =
+    codes "usage: lab tune FILE STARTS --observer L [--env flat|part|part2] [--machine M] [--budget T] [--of #K]\n"
+    ++ (codes "which first predictions are best\n"
+    ++ (codes "  FILE        program\n"
+    ++ (codes "  STARTS      starts\n"
+    ++ (codes "  --observer  label: who sees\n"
+    ++ (codes "  --env       environment: where costs come from; part where it is left out\n"
+    ++ (codes "  --machine   machine file: a machine in place of an environment\n"
+    ++ (codes "  --budget    cycles: the last cycle; 1000000 where it is left out\n"
+    ++ codes "  --of        mark: of one mitigate; #0 where it is left out\n")))))))
+
+unfoldable pub check_help : Text
+check_help =
+    codes "usage: lab check FILE --json\n"
+    ++ (codes "what is found, as JSON\n"
+    ++ (codes "  FILE        program\n"
+    ++ codes "  --json      one object\n"))
+
 unfoldable pub help_help : Text
 help_help =
     codes "usage: lab help [COMMAND]\n"
@@ -98,6 +120,8 @@ command_text Timeline = timeline_help
 command_text Bound = bound_help
 command_text Steady = steady_help
 command_text Leak = leak_help
+command_text Tune = tune_help
+command_text Check = check_help
 command_text Help = help_help
 command_text Version = version_help
 

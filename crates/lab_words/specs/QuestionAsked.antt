@@ -1,13 +1,14 @@
 -- What the words of the lab's command line ask for.
-use Rattle.std.specs.Prelude.{ℕ, List, [], ◌∷◌, Bool, false, Option, Some, None, codes, bytes_eq, option_and_then, option_map, if◌then◌else◌}
+use Rattle.std.specs.Prelude.{ℕ, List, [], ◌∷◌, Bool, true, false, Option, Some, None, codes, bytes_eq, option_and_then, option_map, if◌then◌else◌}
 use Rattle.std.specs.Bool.{⊤}
 use Rattle.clap.specs.Words.{Row, Text, fault_of, first_of, matches_of}
+use Rattle.clap.specs.Lexer.{strip_byte}
 use Rattle.clap.specs.Walk.{is_empty}
 use Rattle.tool_words.specs.declared.words.EnvName.{EnvName}
 use Rattle.run_limits.specs.Cycles.{IsCycles}
-use Rattle.tool_words.specs.WordsValues.{budget_given, env_named}
+use Rattle.tool_words.specs.WordsValues.{budget_given, env_named, number_in}
 use Rattle.lab_words.specs.declared.verbs.Verb.{Verb}
-use Rattle.lab_words.specs.declared.verbs.Verb.TheVariants.{Why, Seen, Timeline, Bound, Steady, Leak, Help, Version}
+use Rattle.lab_words.specs.declared.verbs.Verb.TheVariants.{Why, Seen, Timeline, Bound, Steady, Leak, Tune, Check, Help, Version}
 use Rattle.lab_words.specs.QuestionForms.{form_app}
 
 -- the machine that runs are made on: that of an environment by its name, or the one that a file with this name describes
@@ -16,15 +17,19 @@ pub data MachineAsked : Type 0 where
   described : Text → MachineAsked
 
 -- A question with the bytes of its texts, in the order of `Question`: file, starts, observer, machine and budget;
--- of `seen` and `timeline` also whether refused programs run; of `steady` file, observer, parts, names of operators, and whether the whole run is asked about;
+-- of `seen` and `timeline` also whether refused programs run, of `tune` the mark of a mitigate;
+-- of `steady` file, observer, parts, names of operators, and whether the whole run is asked about;
 -- of `help` the command, if there is one.
 pub data Asked : Type 0 where
   why : Text → Option Text → Asked
+  why_starts : Text → Text → Asked
   seen : Text → Text → Text → MachineAsked → ℕ → Bool → Asked
   timeline : Text → Text → Option Text → MachineAsked → ℕ → Bool → Asked
   bound : Text → Text → Text → MachineAsked → ℕ → Asked
   steady : Text → Text → Option Text → Option Text → Bool → Asked
   leak : Text → Text → Text → MachineAsked → ℕ → Asked
+  tune : Text → Text → Text → MachineAsked → ℕ → ℕ → Asked
+  check : Text → Asked
   help : Option Verb → Asked
   version : Asked
 
@@ -36,14 +41,18 @@ verb_named word =
     (if bytes_eq word (codes "bound") then Some Bound else
     (if bytes_eq word (codes "steady") then Some Steady else
     (if bytes_eq word (codes "leak") then Some Leak else
+    (if bytes_eq word (codes "tune") then Some Tune else
+    (if bytes_eq word (codes "check") then Some Check else
     (if bytes_eq word (codes "help") then Some Help else
-    (if bytes_eq word (codes "version") then Some Version else None)))))))
+    (if bytes_eq word (codes "version") then Some Version else None)))))))))
 
 -- ---- the values that `clap` gives to the names of a form
 
-abbrev pub why_asked : Option Text → Option Text → Option Asked
-why_asked (Some file) of = Some (why file of)
-why_asked None of = None
+-- `--of` stands in place of STARTS
+abbrev pub why_asked : Option Text → Option Text → Option Text → Option Asked
+why_asked (Some file) None of = Some (why file of)
+why_asked (Some file) (Some starts) None = Some (why_starts file starts)
+why_asked _ _ _ = None
 
 -- `--machine` stands in place of `--env`: both name no machine, and none of both names that of an environment
 abbrev pub machine_named : Option Text → Option Text → Option MachineAsked
@@ -81,13 +90,32 @@ abbrev pub steady_asked : Option Text → Option Text → Option Text → Option
 steady_asked (Some file) (Some observer) parts constant whole = Some (steady file observer parts constant whole)
 steady_asked _ _ _ _ _ = None
 
+-- the mitigate with a mark, by `#` and its number; the first one where none is written
+abbrev pub mark_named : Option Text → Option ℕ
+mark_named None = Some 0
+mark_named (Some word) = option_and_then (number_in 0 4294967295) (strip_byte 35 word)
+
+abbrev pub mark_given : List Row → Option ℕ
+mark_given rows = mark_named (first_of (codes "mark") rows)
+
+-- of the best first predictions: file, starts, observer, machine, budget and mark
+abbrev pub tune_asked : Option Text → Option Text → Option Text → Option MachineAsked → Option ℕ → Option ℕ → Option Asked
+tune_asked (Some file) (Some starts) (Some observer) (Some machine) (Some budget) (Some mark) = Some (tune file starts observer machine budget mark)
+tune_asked _ _ _ _ _ _ = None
+
+-- `--json` must be there
+abbrev pub check_asked : Option Text → Bool → Option Asked
+check_asked (Some file) true = Some (check file)
+check_asked (Some file) false = None
+check_asked None json = None
+
 -- what follows `help` is a command word, or nothing
 abbrev pub help_asked : Option Text → Option Asked
 help_asked None = Some (help None)
 help_asked (Some word) = option_map (λ verb. help (Some verb)) (verb_named word)
 
 abbrev pub given : Verb → List Row → Option Asked
-given Why rows = why_asked (first_of (codes "FILE") rows) (first_of (codes "of") rows)
+given Why rows = why_asked (first_of (codes "FILE") rows) (first_of (codes "STARTS") rows) (first_of (codes "of") rows)
 given Seen rows = runs_given (λ file starts observer machine budget.
     seen file starts observer machine budget (flag_given (codes "refused") rows)) rows
 given Timeline rows = timeline_asked (first_of (codes "FILE") rows) (first_of (codes "STARTS") rows) (machine_given rows)
@@ -96,6 +124,9 @@ given Bound rows = runs_given bound rows
 given Steady rows = steady_asked (first_of (codes "FILE") rows) (first_of (codes "observer") rows) (first_of (codes "parts") rows)
     (first_of (codes "constant") rows) (flag_given (codes "whole") rows)
 given Leak rows = runs_given leak rows
+given Tune rows = tune_asked (first_of (codes "FILE") rows) (first_of (codes "STARTS") rows) (first_of (codes "observer") rows) (machine_given rows)
+    (budget_given rows) (mark_given rows)
+given Check rows = check_asked (first_of (codes "FILE") rows) (flag_given (codes "json") rows)
 given Help rows = help_asked (first_of (codes "COMMAND") rows)
 given Version rows = Some version
 
@@ -116,10 +147,13 @@ question_of (word ∷ words) = option_and_then (λ verb. asked_after verb words)
 -- the budget of a question is in range
 abbrev pub IsInRange : Asked → Type 0
 IsInRange (why file of) = ⊤
+IsInRange (why_starts file starts) = ⊤
 IsInRange (seen file starts observer machine budget refused) = IsCycles budget
 IsInRange (timeline file starts observer machine budget refused) = IsCycles budget
 IsInRange (bound file starts observer machine budget) = IsCycles budget
 IsInRange (steady file observer parts constant whole) = ⊤
 IsInRange (leak file starts observer machine budget) = IsCycles budget
+IsInRange (tune file starts observer machine budget mark) = IsCycles budget
+IsInRange (check file) = ⊤
 IsInRange (help command) = ⊤
 IsInRange version = ⊤

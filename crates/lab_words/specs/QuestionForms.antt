@@ -4,11 +4,12 @@ use Rattle.clap.specs.Words.{App, Rule, Text, new_app, new_rule, with_rule}
 use Rattle.clap.specs.declared.builder.action.ArgAction.TheVariants.{SetTrue}
 use Rattle.tool_words.specs.WordsForms.{bare, observed_app, option_rule, required_option_rule, required_word_rule}
 use Rattle.lab_words.specs.declared.verbs.Verb.{Verb}
-use Rattle.lab_words.specs.declared.verbs.Verb.TheVariants.{Why, Seen, Timeline, Bound, Steady, Leak, Help, Version}
+use Rattle.lab_words.specs.declared.verbs.Verb.TheVariants.{Why, Seen, Timeline, Bound, Steady, Leak, Tune, Check, Help, Version}
 
--- FILE [--of NAME]
+-- FILE [STARTS] [--of NAME]
 abbrev pub why_app : App
-why_app = with_rule (with_rule (bare (new_app (codes "why"))) (required_word_rule (codes "FILE"))) (option_rule (codes "of"))
+why_app = with_rule (with_rule (with_rule (bare (new_app (codes "why"))) (required_word_rule (codes "FILE"))) (new_rule (codes "STARTS")))
+    (option_rule (codes "of"))
 
 -- `--name`
 abbrev pub flag_rule : Text → Rule
@@ -34,6 +35,18 @@ abbrev pub steady_app : App
 steady_app = with_rule (with_rule (with_rule (with_rule (with_rule (bare (new_app (codes "steady"))) (required_word_rule (codes "FILE")))
     (required_option_rule (codes "observer"))) (option_rule (codes "parts"))) (option_rule (codes "constant"))) (flag_rule (codes "whole"))
 
+-- `--of`, by the name `mark`
+abbrev pub mark_rule : Rule
+mark_rule = record (new_rule (codes "mark")) { long = Some (codes "of") }
+
+-- what is observed of runs and [--of #K]
+abbrev pub tune_app : App
+tune_app = with_rule (runs_app (codes "tune")) mark_rule
+
+-- FILE --json
+abbrev pub check_app : App
+check_app = with_rule (with_rule (bare (new_app (codes "check"))) (required_word_rule (codes "FILE"))) (flag_rule (codes "json"))
+
 -- [COMMAND]
 abbrev pub help_app : App
 help_app = with_rule (bare (new_app (codes "help"))) (new_rule (codes "COMMAND"))
@@ -46,5 +59,7 @@ form_app Timeline = timeline_app
 form_app Bound = runs_app (codes "bound")
 form_app Steady = steady_app
 form_app Leak = runs_app (codes "leak")
+form_app Tune = tune_app
+form_app Check = check_app
 form_app Help = help_app
 form_app Version = bare (new_app (codes "version"))

@@ -4,7 +4,8 @@ use Rattle.lab_words.specs.declared.machine.Machine.{Machine}
 use Rattle.lab_words.specs.declared.machine.Machine.TheVariants.{Named, Described}
 use Rattle.lab_words.specs.declared.question.Question.{Question}
 use Rattle.lab_words.specs.declared.question.Question.TheVariants as question
-use Rattle.lab_words.specs.QuestionAsked.{MachineAsked, named, described, Asked, why, seen, timeline, bound, steady, leak, help, version}
+use Rattle.lab_words.specs.QuestionAsked.{MachineAsked, named, described}
+use Rattle.lab_words.specs.QuestionAsked.{Asked, why, why_starts, seen, timeline, bound, steady, leak, tune, check, help, version}
 
 abbrev pub machine_of : Machine → MachineAsked
 machine_of (Named env) = named env
@@ -12,6 +13,7 @@ machine_of (Described file) = described file.now
 
 abbrev pub asked_of : Question → Asked
 asked_of (question.Why file of) = why file.now (option_map (λ n. n.now) of)
+asked_of (question.WhyStarts file starts) = why_starts file.now starts.now
 asked_of (question.Seen file starts observer machine budget refused) = seen file.now starts.now observer.now (machine_of machine) budget refused
 asked_of (question.Timeline file starts observer machine budget refused) =
     timeline file.now starts.now (option_map (λ l. l.now) observer) (machine_of machine) budget refused
@@ -19,5 +21,7 @@ asked_of (question.Bound file starts observer machine budget) = bound file.now s
 asked_of (question.Steady file observer parts constant whole) =
     steady file.now observer.now (option_map (λ l. l.now) parts) (option_map (λ w. w.now) constant) whole
 asked_of (question.Leak file starts observer machine budget) = leak file.now starts.now observer.now (machine_of machine) budget
+asked_of (question.Tune file starts observer machine budget mark) = tune file.now starts.now observer.now (machine_of machine) budget mark
+asked_of (question.Check file) = check file.now
 asked_of (question.Help command) = help command
 asked_of question.Version = version

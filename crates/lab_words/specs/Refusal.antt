@@ -9,11 +9,15 @@ use Rattle.clap.specs.Walk.{is_empty}
 use Rattle.clap.specs.Words.{App, Row, Rule, Text, fault_of, first_of, matches_of}
 use Rattle.tool_words.specs.WordsValues.{budget_given}
 use Rattle.lab_words.specs.declared.verbs.Verb.{Verb}
-use Rattle.lab_words.specs.declared.verbs.Verb.TheVariants.{Why, Seen, Timeline, Bound, Steady, Leak, Help, Version}
-use Rattle.lab_words.specs.QuestionAsked.{help_asked, machine_given, verb_named}
+use Rattle.lab_words.specs.declared.verbs.Verb.TheVariants.{Why, Seen, Timeline, Bound, Steady, Leak, Tune, Check, Help, Version}
+use Rattle.lab_words.specs.QuestionAsked.{help_asked, machine_given, mark_given, verb_named}
 use Rattle.lab_words.specs.QuestionForms.{form_app}
 
 -- ---- the first word that can't be taken
+
+-- no value has this name
+abbrev pub lacks : Text → List Row → Bool
+lacks name rows = not (is_some (first_of name rows))
 
 -- a form of which no word must be there
 abbrev pub optional : Rule → Rule
@@ -22,9 +26,15 @@ optional r = record r { required = false }
 abbrev pub loosened : App → App
 loosened = on_top (λ s. record s { rules = map optional s.rules })
 
+-- no name stands beside starts
+abbrev pub is_of_alone : List Row → Bool
+is_of_alone rows = lacks (codes "of") rows || lacks (codes "STARTS") rows
+
 -- the values that words give are of their form
 abbrev pub has_values : List Row → Bool
-has_values rows = is_some (machine_given rows) && (is_some (budget_given rows) && is_some (help_asked (first_of (codes "COMMAND") rows)))
+has_values rows =
+    is_some (machine_given rows) && (is_some (budget_given rows) && (is_some (mark_given rows)
+    && (is_some (help_asked (first_of (codes "COMMAND") rows)) && is_of_alone rows)))
 
 -- the words after a command word can be taken, if some more follow
 abbrev pub is_taken : Verb → List Text → Bool
@@ -68,10 +78,10 @@ next_shown word (next ∷ rest) = if is_bare_option word && not (is_dashed next)
 
 -- where no command is asked for
 unfoldable pub no_command_line : Text
-no_command_line = codes "lab: a command is missing; there are why, seen, timeline, bound, steady, leak, help and version\n"
+no_command_line = codes "lab: a command is missing; there are why, seen, timeline, bound, steady, leak, tune, check, help and version\n"
 
 unfoldable pub commands_there : Text
-commands_there = codes " is no command; there are why, seen, timeline, bound, steady, leak, help and version\n"
+commands_there = codes " is no command; there are why, seen, timeline, bound, steady, leak, tune, check, help and version\n"
 
 -- of a word that is no command
 abbrev pub unknown_line : Text → Text
@@ -79,13 +89,15 @@ unknown_line command = codes "lab: " ++ (shown command ++ commands_there)
 
 -- the form of each command, with what its values may be
 abbrev pub form_told : Verb → Text
-form_told Why = codes "why FILE [--of NAME]\n"
+form_told Why = codes "why FILE [STARTS] [--of NAME]\n"
 form_told Seen = codes "seen FILE STARTS --observer LABEL [--env flat|part|part2] [--machine M] [--budget 1..1099511627776] [--refused]\n"
 form_told Timeline = codes "timeline FILE STARTS [--env flat|part|part2] [--machine M] [--budget 1..1099511627776] [--observer LABEL] [--refused]\n"
 form_told Bound = codes "bound FILE STARTS --observer LABEL [--env flat|part|part2] [--machine M] [--budget 1..1099511627776]\n"
 form_told Steady = codes "steady FILE --observer LABEL [--parts LABEL] [--constant NAMES] [--whole]\n"
 form_told Leak = codes "leak FILE STARTS --observer LABEL [--env flat|part|part2] [--machine M] [--budget 1..1099511627776]\n"
-form_told Help = codes "help [why|seen|timeline|bound|steady|leak|help|version]\n"
+form_told Tune = codes "tune FILE STARTS --observer LABEL [--env flat|part|part2] [--machine M] [--budget 1..1099511627776] [--of #K]\n"
+form_told Check = codes "check FILE --json\n"
+form_told Help = codes "help [why|seen|timeline|bound|steady|leak|tune|check|help|version]\n"
 form_told Version = codes "version\n"
 
 abbrev pub line_begin : Text → Text
@@ -105,13 +117,11 @@ wrong_line verb command word rest =
     line_begin command ++ (shown word ++ (gap (next_shown word rest) ++ (told (next_shown word rest)
     ++ (codes " can't stand here; the form is " ++ form_told verb))))
 
-abbrev pub lacks : Text → List Row → Bool
-lacks name rows = not (is_some (first_of name rows))
-
 -- the word that must be there and is not, where one is not
 abbrev pub missing : Verb → List Row → Text
 missing Why rows = codes "FILE"
 missing Steady rows = if lacks (codes "FILE") rows then codes "FILE" else codes "--observer"
+missing Check rows = if lacks (codes "FILE") rows then codes "FILE" else codes "--json"
 missing Timeline rows = if lacks (codes "FILE") rows then codes "FILE" else codes "STARTS"
 missing _ rows =
     if lacks (codes "FILE") rows then codes "FILE" else (if lacks (codes "STARTS") rows then codes "STARTS" else codes "--observer")

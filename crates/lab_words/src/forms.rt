@@ -2,19 +2,21 @@
 
 ghost use Rattle.std.specs.Prelude.{◌≡◌, false, IfOk};
 ghost use Rattle.clap.specs.Words.{app_of, rule_of};
-ghost use Rattle.lab_words.specs.QuestionForms.{flag_rule, form_app, help_app, runs_app, seen_app, steady_app, timeline_app, why_app};
+ghost use Rattle.lab_words.specs.QuestionForms.{check_app, flag_rule, form_app, help_app, mark_rule, runs_app, seen_app};
+ghost use Rattle.lab_words.specs.QuestionForms.{steady_app, timeline_app, tune_app, why_app};
 
 use crate::verbs::Verb;
 use clap::{Arg, ArgAction, Command as Form};
 use std::alloc::{AllocError, Global};
 use tool_words::forms::{bare_form, observed_form, option, required_option, required_word};
 
-/// `why FILE [--of NAME]`.
+/// `why FILE [STARTS] [--of NAME]`.
 fn why_form<'a>(alloc: Global) -> Result<Form<'a>, AllocError>
     ensures { IfOk result (λ f. app_of f ≡ why_app) }
 {
     bare_form(alloc, "why")
         .arg(required_word(alloc, "FILE"))?
+        .arg(Arg::new(alloc, "STARTS"))?
         .arg(option(alloc, "of"))
 }
 
@@ -66,6 +68,30 @@ fn steady_form<'a>(alloc: Global) -> Result<Form<'a>, AllocError>
         .arg(flag(alloc, "whole"))
 }
 
+/// `--of #K`.
+pub(crate) fn mark<'a>(alloc: Global) -> Arg<'a>
+    ensures rule { rule_of result ≡ mark_rule }
+    ensures local { result.global ≡ false }
+{
+    Arg::new(alloc, "mark").long("of")
+}
+
+/// `tune FILE STARTS --observer L [--env E] [--machine M] [--budget T] [--of #K]`.
+fn tune_form<'a>(alloc: Global) -> Result<Form<'a>, AllocError>
+    ensures { IfOk result (λ f. app_of f ≡ tune_app) }
+{
+    runs_form(alloc, "tune")?.arg(mark(alloc))
+}
+
+/// `check FILE --json`.
+fn check_form<'a>(alloc: Global) -> Result<Form<'a>, AllocError>
+    ensures { IfOk result (λ f. app_of f ≡ check_app) }
+{
+    bare_form(alloc, "check")
+        .arg(required_word(alloc, "FILE"))?
+        .arg(flag(alloc, "json"))
+}
+
 /// `help [COMMAND]`.
 pub(crate) fn help_form<'a>(alloc: Global) -> Result<Form<'a>, AllocError>
     ensures { IfOk result (λ f. app_of f ≡ help_app) }
@@ -84,6 +110,8 @@ pub(crate) fn form<'a>(alloc: Global, verb: Verb) -> Result<Form<'a>, AllocError
         Verb::Bound => runs_form(alloc, "bound"),
         Verb::Steady => steady_form(alloc),
         Verb::Leak => runs_form(alloc, "leak"),
+        Verb::Tune => tune_form(alloc),
+        Verb::Check => check_form(alloc),
         Verb::Help => help_form(alloc),
         Verb::Version => Ok(bare_form(alloc, "version")),
     }

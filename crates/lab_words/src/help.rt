@@ -1,8 +1,8 @@
 //! The texts of `lab help` and `lab version`.
 
 ghost use Rattle.std.specs.Prelude.{◌≡◌};
-ghost use Rattle.lab_words.specs.Help.{bound_help, command_text, commands_text, help_help, help_text, leak_help, seen_help, steady_help};
-ghost use Rattle.lab_words.specs.Help.{timeline_help, version_help, version_text, why_help};
+ghost use Rattle.lab_words.specs.Help.{bound_help, check_help, command_text, commands_text, help_help, help_text, leak_help, seen_help, steady_help};
+ghost use Rattle.lab_words.specs.Help.{timeline_help, tune_help, version_help, version_text, why_help};
 
 use crate::verbs::Verb;
 
@@ -16,6 +16,8 @@ lab timeline  when mitigations begin and end
 lab bound     an audit, the sharp count
 lab steady    whether code is constant in time
 lab leak      what these runs tell, exactly
+lab tune      which first predictions are best
+lab check     what is found, as JSON
 lab help      these lines, or the form of one command
 lab version   the number of this version
 "
@@ -25,9 +27,10 @@ lab version   the number of this version
 fn why_help() -> &'static [u8]
     ensures { result.now ≡ why_help }
 {
-    b"usage: lab why FILE [--of NAME]
+    b"usage: lab why FILE [STARTS] [--of NAME]
 reasons for a refusal or a label
   FILE        program
+  STARTS      starts
   --of        name: of one name
 "
 }
@@ -108,6 +111,33 @@ what these runs tell, exactly
 "
 }
 
+// The form of `tune`.
+fn tune_help() -> &'static [u8]
+    ensures { result.now ≡ tune_help }
+{
+    b"usage: lab tune FILE STARTS --observer L [--env flat|part|part2] [--machine M] [--budget T] [--of #K]
+which first predictions are best
+  FILE        program
+  STARTS      starts
+  --observer  label: who sees
+  --env       environment: where costs come from; part where it is left out
+  --machine   machine file: a machine in place of an environment
+  --budget    cycles: the last cycle; 1000000 where it is left out
+  --of        mark: of one mitigate; #0 where it is left out
+"
+}
+
+// The form of `check`.
+fn check_help() -> &'static [u8]
+    ensures { result.now ≡ check_help }
+{
+    b"usage: lab check FILE --json
+what is found, as JSON
+  FILE        program
+  --json      one object
+"
+}
+
 // The form of `help`.
 fn help_help() -> &'static [u8]
     ensures { result.now ≡ help_help }
@@ -138,6 +168,8 @@ fn command_text(verb: Verb) -> &'static [u8]
         Verb::Bound => bound_help(),
         Verb::Steady => steady_help(),
         Verb::Leak => leak_help(),
+        Verb::Tune => tune_help(),
+        Verb::Check => check_help(),
         Verb::Help => help_help(),
         Verb::Version => version_help(),
     }

@@ -94,7 +94,7 @@ fn form_told(verb: Verb) -> &'static [u8]
     ensures { result.now ≡ form_told verb }
 {
     match verb {
-        Verb::Why => b"why FILE [--of NAME]\n",
+        Verb::Why => b"why FILE [STARTS] [--of NAME]\n",
         Verb::Seen =>
             b"seen FILE STARTS --observer LABEL [--env flat|part|part2] [--machine M] [--budget 1..1099511627776] [--refused]\n",
         Verb::Timeline =>
@@ -105,13 +105,16 @@ fn form_told(verb: Verb) -> &'static [u8]
             b"steady FILE --observer LABEL [--parts LABEL] [--constant NAMES] [--whole]\n",
         Verb::Leak =>
             b"leak FILE STARTS --observer LABEL [--env flat|part|part2] [--machine M] [--budget 1..1099511627776]\n",
-        Verb::Help => b"help [why|seen|timeline|bound|steady|leak|help|version]\n",
+        Verb::Tune =>
+            b"tune FILE STARTS --observer LABEL [--env flat|part|part2] [--machine M] [--budget 1..1099511627776] [--of #K]\n",
+        Verb::Check => b"check FILE --json\n",
+        Verb::Help => b"help [why|seen|timeline|bound|steady|leak|tune|check|help|version]\n",
         Verb::Version => b"version\n",
     }
 }
 
 // Whether the words lack a word or an option.
-fn lacks(matches: &ArgMatches<'_>, name: &str) -> bool
+pub(crate) fn lacks(matches: &ArgMatches<'_>, name: &str) -> bool
     ensures { result ≡ lacks name.now (rows_of (found_of matches.now)) }
 {
     text(matches, name).is_none()
@@ -127,6 +130,11 @@ fn missing(verb: Verb, matches: &ArgMatches<'_>) -> &'static [u8]
             b"FILE"
         } else {
             b"--observer"
+        },
+        Verb::Check => if lacks(matches, "FILE") {
+            b"FILE"
+        } else {
+            b"--json"
         },
         Verb::Timeline => if lacks(matches, "FILE") {
             b"FILE"
@@ -147,14 +155,14 @@ fn missing(verb: Verb, matches: &ArgMatches<'_>) -> &'static [u8]
 pub(crate) fn no_command() -> &'static [u8]
     ensures { result.now ≡ no_command_line }
 {
-    b"lab: a command is missing; there are why, seen, timeline, bound, steady, leak, help and version\n"
+    b"lab: a command is missing; there are why, seen, timeline, bound, steady, leak, tune, check, help and version\n"
 }
 
 // The end of the line on a word that is no command.
 fn commands_there() -> &'static [u8]
     ensures { result.now ≡ commands_there }
 {
-    b" is no command; there are why, seen, timeline, bound, steady, leak, help and version\n"
+    b" is no command; there are why, seen, timeline, bound, steady, leak, tune, check, help and version\n"
 }
 
 /// The line on a word that is no command.

@@ -3,21 +3,22 @@
 ghost use Rattle.std.specs.Prelude.{◌≡◌, IfOk};
 ghost use Rattle.clap.specs.Words.{app_of};
 ghost use Rattle.tool_words.specs.WordsForms.{observed_app};
-ghost use Rattle.lab_words.specs.QuestionForms.{form_app, runs_app, seen_app, steady_app, timeline_app, why_app};
+ghost use Rattle.lab_words.specs.QuestionForms.{check_app, form_app, runs_app, seen_app, steady_app, timeline_app, tune_app, why_app};
 ghost use Rattle.lab_words.specs.Refusal.{loosened};
 
-use crate::forms::{flag, help_form};
+use crate::forms::{flag, help_form, mark};
 use crate::verbs::Verb;
 use clap::{Arg, Command as Form};
 use std::alloc::{AllocError, Global};
 use tool_words::forms::{bare_form, option};
 
-/// `why [FILE] [--of NAME]`.
+/// `why [FILE] [STARTS] [--of NAME]`.
 fn why_form<'a>(alloc: Global) -> Result<Form<'a>, AllocError>
     ensures { IfOk result (λ f. app_of f ≡ loosened why_app) }
 {
     bare_form(alloc, "why")
         .arg(Arg::new(alloc, "FILE"))?
+        .arg(Arg::new(alloc, "STARTS"))?
         .arg(option(alloc, "of"))
 }
 
@@ -73,6 +74,22 @@ fn steady_form<'a>(alloc: Global) -> Result<Form<'a>, AllocError>
         .arg(flag(alloc, "whole"))
 }
 
+/// `tune [FILE] [STARTS] [--observer L] [--env E] [--machine M] [--budget T] [--of #K]`.
+fn tune_form<'a>(alloc: Global) -> Result<Form<'a>, AllocError>
+    ensures { IfOk result (λ f. app_of f ≡ loosened tune_app) }
+{
+    runs_form(alloc, "tune")?.arg(mark(alloc))
+}
+
+/// `check [FILE] [--json]`.
+fn check_form<'a>(alloc: Global) -> Result<Form<'a>, AllocError>
+    ensures { IfOk result (λ f. app_of f ≡ loosened check_app) }
+{
+    bare_form(alloc, "check")
+        .arg(Arg::new(alloc, "FILE"))?
+        .arg(flag(alloc, "json"))
+}
+
 /// The form of the words that follow a command word, none of which must be there.
 pub(crate) fn loose_form<'a>(alloc: Global, verb: Verb) -> Result<Form<'a>, AllocError>
     ensures { IfOk result (λ f. app_of f ≡ loosened (form_app verb)) }
@@ -84,6 +101,8 @@ pub(crate) fn loose_form<'a>(alloc: Global, verb: Verb) -> Result<Form<'a>, Allo
         Verb::Bound => runs_form(alloc, "bound"),
         Verb::Steady => steady_form(alloc),
         Verb::Leak => runs_form(alloc, "leak"),
+        Verb::Tune => tune_form(alloc),
+        Verb::Check => check_form(alloc),
         Verb::Help => help_form(alloc),
         Verb::Version => Ok(bare_form(alloc, "version")),
     }

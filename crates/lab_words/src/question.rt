@@ -21,6 +21,11 @@ pub enum Question<'a> {
         file: &'a str,
         of: Option<&'a str>,
     },
+    /// `why FILE STARTS`
+    WhyStarts {
+        file: &'a str,
+        starts: &'a str,
+    },
     /// `seen FILE STARTS --observer L [--env E | --machine M] [--budget T] [--refused]`, `budget` from 1 to `MAX_CYCLES`
     Seen {
         file: &'a str,
@@ -62,6 +67,19 @@ pub enum Question<'a> {
         observer: &'a str,
         machine: Machine<'a>,
         budget: u64,
+    },
+    /// `tune FILE STARTS --observer L [--env E | --machine M] [--budget T] [--of #K]`, `budget` from 1 to `MAX_CYCLES`
+    Tune {
+        file: &'a str,
+        starts: &'a str,
+        observer: &'a str,
+        machine: Machine<'a>,
+        budget: u64,
+        mark: u32,
+    },
+    /// `check FILE --json`
+    Check {
+        file: &'a str,
     },
     /// `help [COMMAND]`
     Help {

@@ -1,8 +1,9 @@
 //! What the matches of each command ask for.
 
 ghost use Rattle.std.specs.Prelude.{◌≡◌, IfSome, option_map};
+ghost use Rattle.clap.specs.Lexer.{strip_byte};
 ghost use Rattle.clap.specs.Words.{found_of, rows_of};
-ghost use Rattle.lab_words.specs.QuestionAsked.{IsInRange, flag_given, given, machine_given};
+ghost use Rattle.lab_words.specs.QuestionAsked.{IsInRange, flag_given, given, machine_given, mark_given, mark_named};
 ghost use Rattle.lab_words.specs.QuestionViews.{asked_of, machine_of};
 
 use crate::machine::Machine;
@@ -10,6 +11,10 @@ use crate::question::Question;
 use crate::verbs::{Verb, verb_of};
 use clap::ArgMatches;
 use tool_words::readers::{budget, env, file, text};
+use tool_words::values::number_of;
+
+/// The greatest number that the mark of a mitigate may have.
+const MAX_MARK: u64 = u32::MAX as u64;
 
 fn why<'a>(matches: &ArgMatches<'a>) -> Option<Question<'a>>
     ensures asked { option_map asked_of result ≡ given Verb.Why (rows_of (found_of matches.now)) }
@@ -17,7 +22,13 @@ fn why<'a>(matches: &ArgMatches<'a>) -> Option<Question<'a>>
 {
     let file = file(matches)?;
     let of = text(matches, "of");
-    Some(Question::Why { file, of })
+    match text(matches, "STARTS") {
+        None => Some(Question::Why { file, of }),
+        Some(starts) => match of {
+            None => Some(Question::WhyStarts { file, starts }),
+            Some(_) => None,
+        },
+    }
 }
 
 /// The machine that the words name, if they name one and no more.
@@ -140,6 +151,62 @@ fn leak<'a>(matches: &ArgMatches<'a>) -> Option<Question<'a>>
     })
 }
 
+// What follows a first `#`.
+fn after_hash(word: &str) -> Option<&str>
+    ensures { option_map (λ s. s.now) result ≡ strip_byte 35 word.now }
+{
+    word.strip_prefix('#')
+}
+
+// The mark that a word names, if it names one.
+fn mark_of(word: Option<&str>) -> Option<u32>
+    ensures { result ≡ mark_named (option_map (λ w. w.now) word.entry) }
+{
+    let Some(word) = word else {
+        return Some(0);
+    };
+    let mark = number_of(after_hash(word)?, 0, MAX_MARK)?;
+    Some(mark as u32)
+}
+
+/// The mark of the mitigate that the words name, if they name one.
+pub(crate) fn mark(matches: &ArgMatches<'_>) -> Option<u32>
+    ensures { result ≡ mark_given (rows_of (found_of matches.now)) }
+{
+    mark_of(text(matches, "mark"))
+}
+
+fn tune<'a>(matches: &ArgMatches<'a>) -> Option<Question<'a>>
+    ensures asked { option_map asked_of result ≡ given Verb.Tune (rows_of (found_of matches.now)) }
+    ensures range { IfSome result (λ q. IsInRange (asked_of q)) }
+{
+    let file = file(matches)?;
+    let starts = text(matches, "STARTS")?;
+    let observer = text(matches, "observer")?;
+    let machine = machine(matches)?;
+    let budget = budget(matches)?;
+    let mark = mark(matches)?;
+    Some(Question::Tune {
+        file,
+        starts,
+        observer,
+        machine,
+        budget,
+        mark,
+    })
+}
+
+fn check<'a>(matches: &ArgMatches<'a>) -> Option<Question<'a>>
+    ensures asked { option_map asked_of result ≡ given Verb.Check (rows_of (found_of matches.now)) }
+    ensures range { IfSome result (λ q. IsInRange (asked_of q)) }
+{
+    let file = file(matches)?;
+    if flag(matches, "json") {
+        return Some(Question::Check { file });
+    }
+    None
+}
+
 fn help<'a>(matches: &ArgMatches<'a>) -> Option<Question<'a>>
     ensures asked { option_map asked_of result ≡ given Verb.Help (rows_of (found_of matches.now)) }
     ensures range { IfSome result (λ q. IsInRange (asked_of q)) }
@@ -165,6 +232,8 @@ pub(crate) fn question<'a>(verb: Verb, matches: &ArgMatches<'a>) -> Option<Quest
         Verb::Bound => bound(matches),
         Verb::Steady => steady(matches),
         Verb::Leak => leak(matches),
+        Verb::Tune => tune(matches),
+        Verb::Check => check(matches),
         Verb::Help => help(matches),
         Verb::Version => Some(Question::Version),
     }

@@ -4,11 +4,11 @@ ghost use Rattle.std.specs.Prelude.{◌≡◌, ◌<◌, IfOk, IfSome, None, Some
 ghost use Rattle.clap.specs.Words.{first_of, found_of, matches_of, rows_of};
 ghost use Rattle.lab_words.specs.QuestionAsked.{help_asked};
 ghost use Rattle.lab_words.specs.QuestionForms.{form_app};
-ghost use Rattle.lab_words.specs.Refusal.{IsFirst, IsLine, IsLineAfter, has_values, is_taken, line_at, loosened, stands};
+ghost use Rattle.lab_words.specs.Refusal.{IsFirst, IsLine, IsLineAfter, has_values, is_of_alone, is_taken, line_at, loosened, stands};
 
-use crate::lines::{missing_line, no_command, unknown_line, wrong_line};
+use crate::lines::{lacks, missing_line, no_command, unknown_line, wrong_line};
 use crate::loose::loose_form;
-use crate::readers::machine;
+use crate::readers::{machine, mark};
 use crate::verbs::{Verb, verb_of};
 use clap::ArgMatches;
 use std::alloc::Global;
@@ -27,11 +27,22 @@ fn has_command(matches: &ArgMatches<'_>) -> bool
     }
 }
 
+// Whether no name stands beside starts.
+fn is_of_alone(matches: &ArgMatches<'_>) -> bool
+    ensures { result ≡ is_of_alone (rows_of (found_of matches.now)) }
+{
+    lacks(matches, "of") || lacks(matches, "STARTS")
+}
+
 // Whether the values of matches are of their form.
 fn has_values(matches: &ArgMatches<'_>) -> bool
     ensures { result ≡ has_values (rows_of (found_of matches.now)) }
 {
-    machine(matches).is_some() && budget(matches).is_some() && has_command(matches)
+    machine(matches).is_some()
+        && budget(matches).is_some()
+        && mark(matches).is_some()
+        && has_command(matches)
+        && is_of_alone(matches)
 }
 
 // The matches of words of which none must be there, if they can be taken.

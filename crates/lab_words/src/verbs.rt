@@ -12,6 +12,8 @@ pub enum Verb {
     Bound,
     Steady,
     Leak,
+    Tune,
+    Check,
     Help,
     Version,
 }
@@ -27,6 +29,8 @@ pub(crate) fn verb_of(word: &str) -> Option<Verb>
         "bound" => Some(Verb::Bound),
         "steady" => Some(Verb::Steady),
         "leak" => Some(Verb::Leak),
+        "tune" => Some(Verb::Tune),
+        "check" => Some(Verb::Check),
         "help" => Some(Verb::Help),
         "version" => Some(Verb::Version),
         _ => None,

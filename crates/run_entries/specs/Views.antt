@@ -8,7 +8,7 @@ use Rattle.run_entries.specs.declared.entry.Begun.{Begun}
 use Rattle.run_entries.specs.declared.replay.Numbers.{Numbers}
 use Rattle.run_entries.specs.declared.replay.Replay.{Replay}
 use Rattle.run_entries.specs.Entries.{pushed_by, with_number}
-use Rattle.run_entries.specs.Told.{told_at, replayed, told}
+use Rattle.run_entries.specs.Told.{every, is_marked, told_at, replayed, told}
 
 abbrev pub opened_of : Begun → Opened
 opened_of o = record { estimate = o.estimate; level = o.level.number; mark = o.mark; since = o.since }
@@ -34,19 +34,22 @@ timed_of r = record {
   last = r.pushed;
 }
 
--- it is the run with these entries where these numbers are pushed, and ends within the limit
-pub record IsReplay (numbers : ℕ → ℤ) (es : List Entry) (limit : ℕ) (r : Replay) : Type 0 where
+-- it is the run with these entries where these numbers are pushed, and ends within the limit; the miss counts of those with
+-- the marks of a list are shown
+pub record IsReplay (numbers : ℕ → ℤ) (marked : List Bool) (es : List Entry) (limit : ℕ) (r : Replay) : Type 0 where
   pub timed : timed_of r ≡ replayed numbers es
-  pub counts : r.counts.items ≡ told numbers es
+  pub counts : r.counts.items ≡ told every numbers es
+  pub shown : r.shown.items ≡ told (is_marked marked) numbers es
   pub within : r.clock ≤ limit
 
 -- an entry, at the clock after its cycles, was done by the limit
-pub record Went (numbers : ℕ → ℤ) (what : What) (clock limit : ℕ) (old new : Replay) : Type 0 where
+pub record Went (numbers : ℕ → ℤ) (marked : List Bool) (what : What) (clock limit : ℕ) (old new : Replay) : Type 0 where
   pub timed : timed_of new ≡ after numbers what clock (timed_of old)
-  pub counts : new.counts.items ≡ old.counts.items ++ told_at what clock (timed_of old) (timed_of old).opened
+  pub counts : new.counts.items ≡ old.counts.items ++ told_at every what clock (timed_of old) (timed_of old).opened
+  pub shown : new.shown.items ≡ old.shown.items ++ told_at (is_marked marked) what clock (timed_of old) (timed_of old).opened
   pub within : new.clock ≤ limit
 
 -- whether it was done by the limit; if not, it ends after it
-abbrev pub Goes : Bool → (ℕ → ℤ) → What → ℕ → ℕ → Replay → Replay → Type 0
-Goes true numbers what clock limit old new = Went numbers what clock limit old new
-Goes false numbers what clock limit old new = limit < (after numbers what clock (timed_of old)).clock
+abbrev pub Goes : Bool → (ℕ → ℤ) → List Bool → What → ℕ → ℕ → Replay → Replay → Type 0
+Goes true numbers marked what clock limit old new = Went numbers marked what clock limit old new
+Goes false numbers marked what clock limit old new = limit < (after numbers what clock (timed_of old)).clock

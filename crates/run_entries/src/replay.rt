@@ -1,9 +1,9 @@
 //! A run under other first predictions.
 
-ghost use Rattle.std.specs.Prelude.{◌≡◌, ◌<◌, ◌≤◌, ◌+◌, [], ℕ, ℤ, IfOk, OnOk, MatchOption};
+ghost use Rattle.std.specs.Prelude.{◌≡◌, ◌<◌, ◌≤◌, ◌+◌, ◌++◌, ◌∷◌, [], ℕ, ℤ, List, Bool, cond, IfOk, OnOk, MatchOption};
 ghost use Rattle.first_replay.specs.Replay.{Nothing, Pushed, Assigned, Opens, Closes, estimate_by};
 ghost use Rattle.run_entries.specs.Entries.{what_of, entries_of};
-ghost use Rattle.run_entries.specs.Told.{replayed, at_start};
+ghost use Rattle.run_entries.specs.Told.{is_marked, replayed, at_start};
 ghost use Rattle.run_entries.specs.Views.{timed_of, numbers_of, IsReplay, Went, Goes};
 
 use crate::entry::{Begun, Deed, Entry, Opening};
@@ -25,6 +25,8 @@ pub struct Replay {
     pub log: Vec<Event>,
     /// The miss count of each mitigation that has ended, in this order.
     pub counts: Vec<u32>,
+    /// The same of those that are to be shown.
+    pub shown: Vec<u32>,
     /// At which place the last entry pushed a number, if it did.
     pub pushed: Option<u32>,
 }
@@ -75,32 +77,56 @@ fn pass(clock: u64, cycles: u64, limit: u64) -> Option<u64>
     }
 }
 
+// Whether a list says so of a mark; past its end it says of none.
+fn is_marked(marked: &[bool], mark: u32) -> bool
+    ensures { result ≡ is_marked marked.now mark }
+{
+    match marked.get(mark as usize) {
+        Some(yes) => *yes,
+        None => false,
+    }
+}
+
+// Appends a count, if it is wanted.
+fn put_if(counts: &mut Vec<u32>, wanted: bool, count: u32) -> Result<(), Memory>
+    ensures { OnOk result (counts.new.items ≡ counts.old.items ++ cond wanted (count ∷ []) []) }
+{
+    if wanted {
+        counts.push(count)?;
+    }
+    Ok(())
+}
+
 impl Replay {
     // At the beginning of a run.
     fn new(alloc: Global) -> Replay
         ensures timed { timed_of result ≡ at_start }
         ensures counts { result.counts.items ≡ [] }
+        ensures shown { result.shown.items ≡ [] }
         ensures clock { result.clock ≡ 0 }
     {
         let misses = MissTable::new();
         let opened = Vec::new(alloc);
         let log = Vec::new(alloc);
         let counts = Vec::new(alloc);
+        let shown = Vec::new(alloc);
         Replay {
             clock: 0,
             misses,
             opened,
             log,
             counts,
+            shown,
             pushed: None,
         }
     }
 
     // Time passes, and a number may be pushed.
     fn wait(&mut self, clock: u64, pushed: Option<u32>)
-        ensures nothing { (numbers : ℕ → ℤ) (limit : ℕ) → pushed ≡ None → clock ≤ limit → Went numbers Nothing clock limit self.old self.new }
-        ensures pushed { (numbers : ℕ → ℤ) (limit place : ℕ) → pushed ≡ Some place → clock ≤ limit
-            → Went numbers (Pushed place) clock limit self.old self.new }
+        ensures nothing { (numbers : ℕ → ℤ) (marked : List Bool) (limit : ℕ) → pushed ≡ None → clock ≤ limit
+            → Went numbers marked Nothing clock limit self.old self.new }
+        ensures pushed { (numbers : ℕ → ℤ) (marked : List Bool) (limit place : ℕ) → pushed ≡ Some place → clock ≤ limit
+            → Went numbers marked (Pushed place) clock limit self.old self.new }
     {
         self.clock = clock;
         self.pushed = pushed;
@@ -108,8 +134,8 @@ impl Replay {
 
     // A variable gets a value.
     fn assign(&mut self, variable: u32, value: i64, clock: u64) -> Result<(), Memory>
-        ensures { OnOk result ((numbers : ℕ → ℤ) (limit : ℕ) → clock ≤ limit
-            → Went numbers (Assigned variable value) clock limit self.old self.new) }
+        ensures { OnOk result ((numbers : ℕ → ℤ) (marked : List Bool) (limit : ℕ) → clock ≤ limit
+            → Went numbers marked (Assigned variable value) clock limit self.old self.new) }
     {
         self.log.push(Event::Wrote {
             variable,
@@ -124,8 +150,8 @@ impl Replay {
     // A mitigation begins, with this estimate.
     fn open(&mut self, opening: Opening, estimate: i64, clock: u64) -> Result<(), Memory>
         ensures { OnOk result ((limit : ℕ) → clock ≤ limit
-            → (numbers : ℕ → ℤ) → estimate_by numbers opening.estimate self.old.pushed ≡ estimate
-            → Went numbers (Opens opening.estimate opening.level.number opening.mark) clock limit self.old self.new) }
+            → (numbers : ℕ → ℤ) (marked : List Bool) → estimate_by numbers opening.estimate self.old.pushed ≡ estimate
+            → Went numbers marked (Opens opening.estimate opening.level.number opening.mark) clock limit self.old self.new) }
     {
         self.opened.push(Begun {
             estimate,
@@ -143,9 +169,9 @@ impl Replay {
     }
 
     // The mitigation that began last ends, if that is within the limit.
-    fn close(&mut self, clock: u64, limit: u64) -> Result<bool, Memory>
+    fn close(&mut self, marked: &[bool], clock: u64, limit: u64) -> Result<bool, Memory>
         requires within { clock ≤ limit }
-        ensures { IfOk result (λ went. (numbers : ℕ → ℤ) → Goes went numbers Closes clock limit self.old self.new) }
+        ensures { IfOk result (λ went. (numbers : ℕ → ℤ) → Goes went numbers marked.now Closes clock limit self.old self.new) }
     {
         let Some(open) = self.opened.pop() else {
             self.clock = clock;
@@ -163,15 +189,23 @@ impl Replay {
             mark: open.mark,
             cycle,
         })?;
-        self.counts.push(self.misses.misses(open.level))?;
+        let count = self.misses.misses(open.level);
+        self.counts.push(count)?;
+        put_if(&mut self.shown, is_marked(marked, open.mark), count)?;
         self.clock = cycle;
         self.pushed = None;
         Ok(true)
     }
 
     // What an entry does, if that is within the limit.
-    fn step(&mut self, entry: &Entry, numbers: &Numbers<'_>, limit: u64) -> Result<bool, Memory>
-        ensures { IfOk result (λ went. Goes went (numbers_of numbers.now) (what_of entry.now.deed)
+    fn step(
+        &mut self,
+        entry: &Entry,
+        numbers: &Numbers<'_>,
+        marked: &[bool],
+        limit: u64,
+    ) -> Result<bool, Memory>
+        ensures { IfOk result (λ went. Goes went (numbers_of numbers.now) marked.now (what_of entry.now.deed)
             (self.old.clock + entry.now.cost) limit self.old self.new) }
     {
         let Some(clock) = pass(self.clock, entry.cost, limit) else {
@@ -195,23 +229,25 @@ impl Replay {
                 self.open(opening, estimate, clock)?;
                 Ok(true)
             }
-            Deed::Closes => self.close(clock, limit),
+            Deed::Closes => self.close(marked, clock, limit),
         }
     }
 
-    /// The run with these entries where these numbers are pushed, if it ends within the limit. Fails only for want of memory.
+    /// The run with these entries where these numbers are pushed, if it ends within the limit; of the mitigations with the
+    /// marks of a list the miss counts are shown. Fails only for want of memory.
     pub fn of(
         alloc: Global,
         entries: &[Entry],
         numbers: &Numbers<'_>,
+        marked: &[bool],
         limit: u64,
     ) -> Result<Option<Replay>, Memory>
         ensures { IfOk result (λ end. MatchOption end (limit < (replayed (numbers_of numbers.now) (entries_of entries.now)).clock)
-            (λ run. IsReplay (numbers_of numbers.now) (entries_of entries.now) limit run)) }
+            (λ run. IsReplay (numbers_of numbers.now) marked.now (entries_of entries.now) limit run)) }
     {
         let mut run = Replay::new(alloc);
         for entry in entries {
-            let went = run.step(entry, numbers, limit)?;
+            let went = run.step(entry, numbers, marked, limit)?;
             if !went {
                 return Ok(None);
             }

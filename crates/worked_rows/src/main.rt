@@ -14,7 +14,7 @@ mod text;
 mod words_tests;
 
 // The tables, in the order in which they are run.
-const TABLES: [&str; 30] = [
+const TABLES: [&str; 32] = [
     "examples.txt",
     "texts.txt",
     "grammar.txt",
@@ -37,10 +37,12 @@ const TABLES: [&str; 30] = [
     "lab-examples.txt",
     "lab-why.txt",
     "lab-texts.txt",
+    "lab-check.txt",
     "lab-runs.txt",
     "lab-bounds.txt",
     "lab-steady.txt",
     "lab-leaks.txt",
+    "lab-tune.txt",
     "lab-spaces.txt",
     "lab-machines.txt",
     "lab-faults.txt",

@@ -27,7 +27,57 @@ def fold(page):
     for name, (left, top, right, bottom) in boxes.items():
         holds(0 <= left < right <= 1366 and 0 <= top < bottom <= 768, f"{name}: {left} {top} {right} {bottom}")
     holds(boxes[".editor"][2] <= boxes["#lanes svg"][0], "the program stands beside the picture")
+    page.set("#budget", str(2**40))
+    fits = "const box = document.getElementById('budget'); return box.scrollWidth <= box.clientWidth"
+    holds(page.run(fits), "the greatest number of cycles has room")
+    page.idle()
     page.browser.resize(1360, 900)
+
+
+SIZES = """
+const hasWords = (part) => [...part.childNodes].some((node) => node.nodeType === 3 && node.textContent.trim());
+const seen = [...document.querySelectorAll('body *')].filter((part) => part.getClientRects().length && hasWords(part));
+return [...new Set(seen.map((part) => getComputedStyle(part).fontSize))].sort();"""
+
+
+def type_scale(page):
+    """What is written has one of six sizes, the program that of its own."""
+    for number in (0, 2, 13):
+        page.choose(number)
+        page.run("for (const part of document.querySelectorAll('details')) part.open = true")
+        page.run("document.getElementById('costs-shown').click(); document.getElementById('steps-all').click()")
+        page.idle()
+        page.run("document.getElementById('step-on').click()")
+        other = set(page.run(SIZES)) - {"12px", "13px", "14px", "15px", "18px", "24px"}
+        same(other, set(), f"other sizes, with example {number}")
+        page.open()
+
+
+def changed_since(page):
+    """What is said of an example says first that it was changed since, where there is no room for the whole of it."""
+    page.browser.resize(1366, 768)
+    page.choose(0)
+    shown = "const says = document.getElementById('example-says'); return [says.textContent, says.scrollWidth > says.clientWidth]"
+    whole, is_cut = page.run(shown)
+    holds(is_cut, "the sentence has no room")
+    page.caret("done := 1")
+    page.browser.type("0")
+    same(page.run(shown), ["Changed since: " + whole, True], "what it says then")
+    same(page.run("return document.getElementById('example-says').title"), "Changed since: " + whole, "and beside the pointer")
+    page.browser.resize(1360, 900)
+
+
+def no_empty_words(page):
+    """Where there are no numbers nothing can be opened that says what they mean."""
+    page.open()
+    page.choose(2)
+    shown = "return getComputedStyle(document.getElementById('words')).visibility"
+    top = "return document.getElementById('program').getBoundingClientRect().top + scrollY"
+    same(page.run(shown), "hidden", "words on no numbers")
+    without = page.run(top)
+    page.choose(0)
+    same(page.run(shown), "visible", "words on numbers")
+    same(page.run(top), without, "where the program stands with them")
 
 
 def no_praise(page):
@@ -187,9 +237,35 @@ def forced_colours(page):
         same(page.count(".lane"), 9, f"lanes with {feature}")
         ink, ground = page.run("const s = getComputedStyle(document.body); return [s.color, s.backgroundColor]")
         holds(ink != ground, f"{feature}: {ink} on {ground}")
+    page.choose(2)
+    page.browser.devtools("Emulation.setEmulatedMedia", features=[{"name": "forced-colors", "value": "active"}])
+    # the browser draws the ground behind words
+    ground = page.run("return getComputedStyle(document.body).backgroundColor")
+    words = page.run(
+        "return [...document.querySelectorAll('body *')].filter((part) => part.textContent.trim() && part.offsetParent)"
+        ".filter((part) => getComputedStyle(part).color === arguments[0]).map((part) => part.outerHTML.slice(0, 80))",
+        ground,
+    )
+    same(words, [], "words in the colour of the ground")
     page.browser.devtools("Emulation.setEmulatedMedia", media="print", features=[])
-    holds(page.run("return getComputedStyle(document.getElementById('lesson-open')).display") == "none", "no buttons in print")
+    printed = "return arguments[0].filter((name) => document.getElementById(name).getClientRects().length)"
+    same(page.run(printed, ["lesson-open", "step-on", "example", "lanes-keys"]), [], "what can be pressed, in print")
+    found = ["lane-says", "sentence", "editor", "time-legend"]
+    same(page.run(printed, found), found, "what was found, in print")
     page.browser.devtools("Emulation.setEmulatedMedia", media="", features=[])
 
 
-TRIALS = [fold, no_praise, keyboard, names, targets, told, nothing_moves, forced_colours, narrow]
+TRIALS = [
+    fold,
+    type_scale,
+    changed_since,
+    no_empty_words,
+    no_praise,
+    keyboard,
+    names,
+    targets,
+    told,
+    nothing_moves,
+    forced_colours,
+    narrow,
+]

@@ -2,6 +2,7 @@
 import xml.etree.ElementTree
 
 from driving import ENDLESS, EXAMPLES, SWEPT, all_dimmed, holds, same
+from standing_in import without_tune
 
 # What is told of the program before, after a run that was stopped.
 OLD = [".number-of b", ".lane text[font-weight]", "#starts-table td.seen", "#leak-shown tr"]
@@ -192,7 +193,7 @@ def sweep(page):
     page.idle()
     holds("mitigate (269, H)" in page.program(), "a prediction is taken")
     same(page.value("#example"), "own", "the example that is chosen then")
-    holds(page.text("#example-says").endswith("look alike. (Changed since.)"), page.text("#example-says"))
+    holds(page.text("#example-says").startswith("Changed since: The same check"), page.text("#example-says"))
     same(page.text("#audit .number-of b"), "1", "the count with it")
     tips = "return [...document.querySelectorAll('.lane [data-tip]')].map((one) => one.dataset.tip).join()"
     holds("310" in page.run(tips), "its end")
@@ -304,8 +305,8 @@ TRIALS = [
     table_and_toml,
     rows_and_columns,
     timeline,
-    sweep,
-    sweep_past_1,
+    without_tune(sweep),
+    without_tune(sweep_past_1),
     saves,
     stops,
     cut_runs,

@@ -6,6 +6,7 @@ import tempfile
 import tomllib
 
 from driving import SWEPT, TOP, all_dimmed, holds, same
+from standing_in import without_tune
 
 PROGRAMS = TOP / "programs/x86_64-linux"
 LABELS = "labels A, B, C;\norder A < B, B < C;\nvar a : A;\nvar b : B;\nvar c : C;\n"
@@ -13,6 +14,9 @@ LEVELS = LABELS + (
     "mitigate (2, C) { while c > 0 do { c := c - 1 } };\na := 2;\nmitigate (8, C) { if c > 1 then {" " sleep 9 } else { skip } };\nb := 1\n"
 )
 LEVEL_STARTS = "".join(f"[[run]]\nmemory = {{ c = {n} }}\n\n" for n in (0, 3, 9))
+STEPS_AFTER_A_KEY = """
+document.querySelector('.CodeMirror').CodeMirror.replaceRange(' ', { line: 0, ch: 0 });
+return ['step-on', 'step-back'].map((name) => document.getElementById(name).disabled);"""
 DATA = "[...document.querySelectorAll(arguments[0])].map((one) => one.dataset[arguments[1]])"
 
 
@@ -266,8 +270,11 @@ def stepped_through(page):
     holds(page.run("return document.getElementById('step-on').disabled"), "nothing is behind the end")
     page.run("document.getElementById('step-back').click()")
     holds(": done = 1. Misses" in page.text("#step-says"), page.text("#step-says"))
-    page.write_now(page.program() + " ")
-    all_dimmed(page, "#step-says", "a step of an earlier program")
+    same(page.run(STEPS_AFTER_A_KEY), [True, True], "whether no step is gone of a program that is not there")
+    page.idle()
+    page.run("document.getElementById('step-on').click()")
+    for _, seen_and_dimmed, _ in page.write_and_look(page.program() + " ", ["#step-says"]):
+        same(tuple(seen_and_dimmed), (1, 1), "a step of an earlier program, seen and dimmed")
     page.idle()
     same(page.text("#step-says"), "", "another program begins anew")
 
@@ -331,8 +338,48 @@ def costs_beside_lines(page):
     page.idle()
 
 
+def costs_of_refused(page):
+    """A refused program has costs, steps and code too, by its least labels: their sum is the end that the tool tells, and
+    each step is one of the run that the tool tells."""
+    page.choose(2)
+    page.run("document.getElementById('costs-shown').click(); document.getElementById('steps-all').click()")
+    page.browser.click("#code-open")
+    page.idle()
+    told = call("lab", "timeline program.mit starts.toml --refused", page.program(), page.value("#toml")).split("run ")[1:]
+    holds(page.run("return document.querySelector('.verdict.no, .verdict.rules') !== null"), "it is refused")
+    holds("its least labels" in page.text("#code-says"), page.text("#code-says"))
+    holds("its least labels" in page.text("#costs-says"), page.text("#costs-says"))
+    for number, keys in ((0, 1), (3, 3)):
+        page.run("document.getElementById('lanes').focus()")
+        page.browser.press(*["ArrowDown"] * keys)
+        end = int(re.search(r"^end @(\d+)$", told[number], re.M)[1])
+        costs = [text.replace("\u202f", "") for text in page.texts("#editor .cost")]
+        spent = sum(int(number) for text in costs for number in re.findall(r"(?<![(\d])\d+(?![\d)])", text))
+        same(page.text("#costs-of"), f"Cycles of run {number + 1}", "whose cycles")
+        holds(end - spent in (1, 9, 29), f"{costs}, and the fetch of HALT: {end}")
+        paid = [text.replace("\u202f", "") for text in page.texts("#code .paid")]
+        of_each = [int(re.sub(r"^\d+× ", "", text).split(" ")[0]) for text in paid if text != "not run"]
+        same(sum(of_each), end, f"the sum of {paid}")
+        same(len(paid), page.count("#code .line"), "instructions with a cost")
+    page.run("document.getElementById('step-on').click()")
+    text = page.text("#step-says").replace("\u202f", "")
+    count = int(re.match(r"Run 4, instruction 1 of (\d+), cycle 29: 0 ", text)[1])
+    page.run(f"for (let k = 1; k < {count}; k++) document.getElementById('step-on').click()")
+    text = page.text("#step-says").replace("\u202f", "")
+    holds(f"instruction {count} of {count}, cycle {end}: " in text and "HALT" in text, f"{text}: {end}")
+    holds("code 0–7" in page.text("#step-state"), page.text("#step-state"))
+    page.write(page.program() + " := ")
+    same(page.count("#editor .cost"), 0, "cycles of what is no program")
+    page.choose(2)
+    page.write("var h : H;\nvar l : L;\nwhile h do { h := h - 1 };\nl := 1\n", "[[run]]\nmemory = { h = 1 }\nx = 1\n")
+    holds("refused T-ASGN" in page.text("#code"), "without a run the tool's own line: " + page.text("#code"))
+    page.browser.click("#code-open")
+    page.run("document.getElementById('costs-shown').click(); document.getElementById('steps-all').click()")
+
+
 TRIALS = [
     costs_beside_lines,
+    costs_of_refused,
     stepped_through,
     each_instruction,
     defaults,
@@ -342,11 +389,11 @@ TRIALS = [
     all_together,
     settings_of_examples,
     cells,
-    swept,
+    without_tune(swept),
     code_of_the_program,
     reason,
     mend_at_the_level,
-    second_mitigate,
+    without_tune(second_mitigate),
     many_runs,
 ]
 if not PROGRAMS.exists():

@@ -1,4 +1,6 @@
 """Lessons: the part that is spoken of, a guess before it is told, tasks that are seen to be done; a teacher's task."""
+import re
+
 from driving import EXAMPLES, holds, same
 
 COUNT = "return document.querySelectorAll('#lesson-which option').length"
@@ -9,6 +11,9 @@ const at = box.getBoundingClientRect(), isFoot = getComputedStyle(box).position 
 return [Math.round(part.top), isFoot ? 0 : Math.round(at.bottom), isFoot ? Math.round(at.top) : innerHeight];"""
 HIDDEN = "return arguments[0].map((selector) => getComputedStyle(document.querySelector(selector)).visibility)"
 TOLD = ["#sentence", "#audit", "#lanes svg", "#verdict"]
+ANSWERS = """
+return [...document.querySelectorAll('#lesson-guess button')].map((part) => part.getBoundingClientRect())
+  .map((box) => [box.left, box.right]);"""
 DONE = "return document.getElementById('lesson').classList.contains('done')"
 
 
@@ -51,7 +56,9 @@ def guess_first(page):
     page.browser.click('[data-guess="0"]')
     same(page.run(HIDDEN, TOLD), ["visible"] * len(TOLD), "what is seen then")
     holds("something else" in page.text("#lesson-guess") and "8 cycles" in page.text("#lesson-guess"), page.text("#lesson-guess"))
-    same(page.text("#lesson-guess .right"), "✓ Later, the greater the number was", "the right one")
+    same(page.text("#lesson-guess .true"), "✓ Later, the greater the number was", "the right one")
+    boxes = page.run(ANSWERS)
+    holds(all(after[0] - before[1] < 20 for before, after in zip(boxes, boxes[1:])), f"a gap beside the right one: {boxes}")
     page.browser.click("#lesson-next")
     page.idle()
     page.browser.click('[data-guess="1"]')
@@ -61,6 +68,39 @@ def guess_first(page):
     holds(not page.run(COVERED), "a guess that was made is not asked for again")
     page.browser.click("#lesson-close")
     holds(not page.run(COVERED), "without the lesson nothing is covered")
+
+
+# What can be seen outside of the lesson's own box and of what a person wrote, line by line.
+SEEN = """
+const isSeen = (part) => part.getClientRects().length && getComputedStyle(part).visibility === 'visible';
+const written = '#lesson, .CodeMirror-code, #costs-says, #code-says, header, footer, #commands, select, textarea,'
+  + ' .unseen, #notice, .tip';
+const walk = document.createTreeWalker(document.body, NodeFilter.SHOW_TEXT), found = [];
+while (walk.nextNode()) {
+  const part = walk.currentNode.parentElement, text = walk.currentNode.textContent.trim();
+  if (text && !part.closest(written) && isSeen(part)) found.push(text);
+}
+return found;"""
+
+
+def guess_covers_all(page):
+    """While a guess is asked for no part tells a cycle or a number of runs, and each that is covered has its name and says
+    why it is empty."""
+    page.open()
+    page.run("document.getElementById('costs-shown').click(); document.getElementById('steps-all').click()")
+    page.browser.click("#code-open")
+    for lesson in range(page.run(COUNT)):
+        open_step(page, lesson, 0)
+        holds(page.run(COVERED), "a guess is asked for")
+        lines = page.run(SEEN)
+        told = [line for line in lines if re.search(r"@\d|\d+ cycles|different|\d runs|\bsees\b|ends? at", line)]
+        same(told, [], f"what is told before the guess of lesson {lesson}")
+        for title in ("What these runs tell", "Constant in time?"):
+            holds(title in lines, f"{title}: {lines}")
+        script = "return getComputedStyle(document.getElementById('leak'), '::after').content"
+        same(page.run(script), '"Guess first"', "why it is empty")
+        page.browser.click("#lesson-close")
+    page.open()
 
 
 def goes_to_its_part(page):
@@ -195,4 +235,4 @@ def teachers_task(page):
     page.open()
 
 
-TRIALS = [guess_first, goes_to_its_part, task_is_seen, cache_attack, constant_time, teachers_task]
+TRIALS = [guess_first, guess_covers_all, goes_to_its_part, task_is_seen, cache_attack, constant_time, teachers_task]

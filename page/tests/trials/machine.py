@@ -3,6 +3,7 @@ import json
 import re
 
 from driving import EXAMPLES, all_dimmed, holds, none_dimmed, same
+from standing_in import without_tune
 from trials.basics import sweep_now
 from trials.controls import DATA, call
 from trials.lessons import guessed, is_done, not_done, open_step
@@ -254,4 +255,4 @@ def shared_cache(page):
     page.browser.click("#lesson-close")
 
 
-TRIALS = [machines_are_chosen, own_machine, machine_is_refused, both_sides, machine_is_kept, shared_cache]
+TRIALS = [machines_are_chosen, without_tune(own_machine), machine_is_refused, both_sides, machine_is_kept, shared_cache]

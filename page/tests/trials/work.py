@@ -120,4 +120,21 @@ def commands(page):
     page.open()
 
 
-TRIALS = [reload, way_back, link, files, opened, commands]
+def note_covers_nothing(page):
+    """What is gone to by keys does not stand below the note that own work was put aside."""
+    page.open()
+    page.write("var l : L;\nl := 2\n")
+    page.choose(2)
+    holds(page.run("return !document.getElementById('notice').hidden"), "the note")
+    covered = page.run(
+        "const note = document.getElementById('notice').getBoundingClientRect();"
+        "const seen = [...document.querySelectorAll('main button, main select, main summary')].filter((part) => part.offsetParent);"
+        "return seen.filter((part) => { scrollTo(0, 0); part.focus(); part.scrollIntoView({ block: 'nearest' });"
+        " return document.activeElement === part && part.getBoundingClientRect().bottom > note.top; })"
+        ".map((part) => part.outerHTML.slice(0, 80))"
+    )
+    same(covered, [], "what stands below the note")
+    page.browser.click("#notice-close")
+
+
+TRIALS = [reload, way_back, note_covers_nothing, link, files, opened, commands]

@@ -12,7 +12,7 @@ run-init g c =
     gone_first g.E.MachineEnv.env g.E.MachineEnv.serves c.args.image.now c.args.limit c.args.memory.items c.args.env c.new-kept.result _
     (stands_first g.E.MachineEnv.serves c.args.image.now _ c.laws.ensures.shaped refl c.in_ok-operands.ensures.items c.in_ok-opened.ensures.items
     a b c.requires.values c.laws.ensures.labels c.requires.serves) refl c.in_ok-operands.ensures.items refl refl
-    c.new-kept.ensures.closed c.new-kept.ensures.none refl c.new-kept.ensures.waiting
+    c.new-kept.ensures.closed c.new-kept.ensures.none c.new-kept.ensures.counts refl c.new-kept.ensures.waiting
 
 pub deed_at-deed-requires : goal.deed_at-deed-requires
 deed_at-deed-requires g c = c.run.invariant.stands
@@ -37,7 +37,7 @@ pub run-preserved : goal.run-preserved
 run-preserved g c =
     gone_more g.E.MachineEnv.env g.E.MachineEnv.serves c.args.image.now c.args.limit (start c.args.memory.items c.args.env) c.run.kept c.put.new.self
     c.run.state c.work.new.state _ (what_of c.deed_at-deed.result) c.run.invariant c.in-Went.ensures refl c.deed_at-deed.ensures
-    c.in_ok-put-in-Went.ensures.step c.in_ok-put-in-Went.ensures.closed c.in_ok-put-in-Went.ensures.waiting
+    c.in_ok-put-in-Went.ensures.step c.in_ok-put-in-Went.ensures.counts c.in_ok-put-in-Went.ensures.closed c.in_ok-put-in-Went.ensures.waiting
 
 pub overflow_sub-state-in-Halted : goal.overflow_sub-state-in-Halted
 overflow_sub-state-in-Halted g c = omega (arith, (c.in-Halted.ensures).1.later)
@@ -53,7 +53,8 @@ pub returns-in-Halted-clause-tells : goal.returns-in-Halted-clause-tells
 returns-in-Halted-clause-tells g c =
     gone_halted g.E.MachineEnv.env g.E.MachineEnv.serves c.args.image.now c.args.limit (start c.args.memory.items c.args.env) c.run.kept
     c.put-in-Halted.new.self c.run.state c.work.new.state _ (what_of c.deed_at-deed.result) c.in_ok-entries-in-Halted.entries.items
-    c.run.invariant c.in-Halted.ensures refl c.deed_at-deed.ensures c.in_ok-put-in-Halted.ensures.step c.in_ok-entries-in-Halted.ensures
+    c.run.invariant c.in-Halted.ensures refl c.deed_at-deed.ensures c.in_ok-put-in-Halted.ensures.step c.in_ok-put-in-Halted.ensures.counts
+    c.in_ok-entries-in-Halted.ensures.same c.in_ok-entries-in-Halted.ensures.counts
 
 pub returns-in-Late-clause-fault : goal.returns-in-Late-clause-fault
 returns-in-Late-clause-fault g c e =

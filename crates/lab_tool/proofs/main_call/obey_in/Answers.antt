@@ -29,6 +29,13 @@ returns-in-Some-clause-answered g c =
     (IsAnswerIn c.args.env rises content (asked_of x)) c.why_of.result in
     subst P (sym c.in-Why.is) (subst (λ (o : Option (Bor (List ℕ))). P (Why c.in-Why.file o)) (sym c.in-Some.is) c.why_of.ensures.answered)
 
+pub returns-in-WhyStarts-clause-answered : goal.returns-in-WhyStarts-clause-answered
+returns-in-WhyStarts-clause-answered g c =
+    let content = g.S.Shelf.content c.args.shelf.now in
+    let rises = λ (name : List ℕ). Rose (g.S.Shelf.faults c.args.shelf.now name) (g.S.Shelf.faults c.why_starts.new.shelf name) in
+    subst (λ (x : Question). EndsBy (g.W.Sink.taken c.args.out.now) (g.W.Sink.taken c.why_starts.new.out) (BeforeIn c.args.env content (asked_of x))
+    (IsAnswerIn c.args.env rises content (asked_of x)) c.why_starts.result) (sym c.in-WhyStarts.is) c.why_starts.ensures.answered
+
 pub returns-in-Seen-clause-answered : goal.returns-in-Seen-clause-answered
 returns-in-Seen-clause-answered g c =
     let content = g.S.Shelf.content c.args.shelf.now in
@@ -57,6 +64,20 @@ returns-in-Leak-clause-answered g c =
     subst (λ (x : Question). EndsBy (g.W.Sink.taken c.args.out.now) (g.W.Sink.taken c.leak.new.out) (BeforeIn c.args.env content (asked_of x))
     (IsAnswerIn c.args.env rises content (asked_of x)) c.leak.result) (sym c.in-Leak.is) c.leak.ensures.answered
 
+pub returns-in-Tune-clause-answered : goal.returns-in-Tune-clause-answered
+returns-in-Tune-clause-answered g c =
+    let content = g.S.Shelf.content c.args.shelf.now in
+    let rises = λ (name : List ℕ). Rose (g.S.Shelf.faults c.args.shelf.now name) (g.S.Shelf.faults c.tune.new.shelf name) in
+    subst (λ (x : Question). EndsBy (g.W.Sink.taken c.args.out.now) (g.W.Sink.taken c.tune.new.out) (BeforeIn c.args.env content (asked_of x))
+    (IsAnswerIn c.args.env rises content (asked_of x)) c.tune.result) (sym c.in-Tune.is) c.tune.ensures.answered
+
+pub returns-in-Check-clause-answered : goal.returns-in-Check-clause-answered
+returns-in-Check-clause-answered g c =
+    let content = g.S.Shelf.content c.args.shelf.now in
+    let rises = λ (name : List ℕ). Rose (g.S.Shelf.faults c.args.shelf.now name) (g.S.Shelf.faults c.check.new.shelf name) in
+    subst (λ (x : Question). EndsBy (g.W.Sink.taken c.args.out.now) (g.W.Sink.taken c.check.new.out) (BeforeIn c.args.env content (asked_of x))
+    (IsAnswerIn c.args.env rises content (asked_of x)) c.check.result) (sym c.in-Check.is) c.check.ensures.answered
+
 pub returns-in-Timeline-clause-answered : goal.returns-in-Timeline-clause-answered
 returns-in-Timeline-clause-answered g c =
     let content = g.S.Shelf.content c.args.shelf.now in
@@ -73,6 +94,11 @@ pub returns-in-Some-clause-fetched : goal.returns-in-Some-clause-fetched
 returns-in-Some-clause-fetched g c =
     subst (λ (x : Question). HasFetched (own_files (asked_of x)) c.why_of.result (g.S.Shelf.log c.args.shelf.now) (g.S.Shelf.log c.why_of.new.shelf))
     (sym c.in-Why.is) c.why_of.ensures.fetched
+
+pub returns-in-WhyStarts-clause-fetched : goal.returns-in-WhyStarts-clause-fetched
+returns-in-WhyStarts-clause-fetched g c =
+    subst (λ (x : Question). HasFetched (own_files (asked_of x)) c.why_starts.result (g.S.Shelf.log c.args.shelf.now) (g.S.Shelf.log c.why_starts.new.shelf))
+    (sym c.in-WhyStarts.is) c.why_starts.ensures.fetched
 
 pub returns-in-Seen-clause-fetched : goal.returns-in-Seen-clause-fetched
 returns-in-Seen-clause-fetched g c =
@@ -93,6 +119,16 @@ pub returns-in-Leak-clause-fetched : goal.returns-in-Leak-clause-fetched
 returns-in-Leak-clause-fetched g c =
     subst (λ (x : Question). HasFetched (own_files (asked_of x)) c.leak.result (g.S.Shelf.log c.args.shelf.now) (g.S.Shelf.log c.leak.new.shelf))
     (sym c.in-Leak.is) c.leak.ensures.fetched
+
+pub returns-in-Tune-clause-fetched : goal.returns-in-Tune-clause-fetched
+returns-in-Tune-clause-fetched g c =
+    subst (λ (x : Question). HasFetched (own_files (asked_of x)) c.tune.result (g.S.Shelf.log c.args.shelf.now) (g.S.Shelf.log c.tune.new.shelf))
+    (sym c.in-Tune.is) c.tune.ensures.fetched
+
+pub returns-in-Check-clause-fetched : goal.returns-in-Check-clause-fetched
+returns-in-Check-clause-fetched g c =
+    subst (λ (x : Question). HasFetched (own_files (asked_of x)) c.check.result (g.S.Shelf.log c.args.shelf.now) (g.S.Shelf.log c.check.new.shelf))
+    (sym c.in-Check.is) c.check.ensures.fetched
 
 pub returns-in-Timeline-clause-fetched : goal.returns-in-Timeline-clause-fetched
 returns-in-Timeline-clause-fetched g c =

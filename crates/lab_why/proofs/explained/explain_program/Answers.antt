@@ -1,20 +1,20 @@
-use Rattle.std.proofs.Common.{refl, sym, ap, inl, inr, ◌∙◌}
+use Rattle.std.proofs.Common.{sym, subst, ◌∙◌}
+use Rattle.timing_types.specs.Labelled.{LabelledProgram, HasType}
 use Rattle.tool_stages.specs.Stages.{Types}
-use Rattle.timing_types.specs.Labelled.{HasType}
-use Rattle.tool_texts.specs.Texts.{accepted_line}
 use Rattle.lab_why.proofs.ReasonLemmas.{of_ok, of_err, same_tokens, tells_reason}
 use Rattle.lab_why.proofs.explained.explain_program.Goals as goal
 
-pub returns-in_default-checked : goal.returns-in_default-checked
-returns-in_default-checked c content reads is =
-    let line = c.accepted-line.ensures ∙ (ap (λ n. accepted_line n c.mitigates.result) c.commands.ensures ∙ ap (accepted_line _) c.mitigates.ensures) in
+pub returns-in-Ok-checked : goal.returns-in-Ok-checked
+returns-in-Ok-checked c content reads is =
+    let checked = c.in-Ok-check_why.checked in
+    let typed = c.in-Ok-checked.typed in
+    let same = of_ok checked typed _ c.in-Ok-checked.is c.in-Ok-check_why.ensures.labelled in
     let types : Types c.args.program c.in-Ok.labelled = record {
       program = c.in-Ok.ensures.program;
       least = c.in-Ok.ensures.least;
-      typed = of_ok c.in-Ok-check_why.checked c.in_default-checked.field-0 (λ _. HasType c.in-Ok.labelled) c.in_default-checked.is
-          c.in-Ok-check_why.ensures.typed;
+      typed = of_ok checked typed (λ _. HasType c.in-Ok.labelled) c.in-Ok-checked.is c.in-Ok-check_why.ensures.typed;
     } in
-    inr (c.in-Ok.labelled, types, (refl, line))
+    (c.args.program, reads, subst (λ (z : LabelledProgram). Types c.args.program z) (sym same) types)
 
 pub returns-in-Ok-refusal_text : goal.returns-in-Ok-refusal_text
 returns-in-Ok-refusal_text c content reads is =
@@ -26,8 +26,11 @@ returns-in-Ok-refusal_text c content reads is =
     let reason = of_err checked refusal _ c.in-Err.is ensures.why in
     let cheapest = of_err checked refusal _ c.in-Err.is ensures.cheapest in
     let earliest = of_err checked refusal _ c.in-Err.is ensures.earliest in
-    let list = same_tokens _ _ _ _ is reads.cut c.in-Ok-tokens.ensures.only in
-    inl (tells_reason content c.args.program c.in-Ok.labelled refusal.labelled refusal.fault refusal.chain.items reads _ _ _
-    is (list ∙ sym c.as_slice.ensures.value) c.in-Ok.ensures.program refused.0 c.in-Ok.ensures.least
-    c.in-Ok.ensures.types none refused.1 reason cheapest earliest
-    c.in-Ok-refusal_text.ensures)
+    let list = same_tokens _ _ _ _ is reads.cut c.in-Ok-tokens.ensures.only in (
+      c.args.program,
+      reads,
+      tells_reason content c.args.program c.in-Ok.labelled refusal.labelled refusal.fault refusal.chain.items reads _ _ _
+          is (list ∙ sym c.as_slice.ensures.value) c.in-Ok.ensures.program refused.0 c.in-Ok.ensures.least
+          c.in-Ok.ensures.types none refused.1 reason cheapest earliest
+          c.in-Ok-refusal_text.ensures,
+    )

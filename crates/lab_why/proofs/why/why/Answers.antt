@@ -1,44 +1,57 @@
-use Rattle.std.proofs.Common.{refl, sym, subst, inl}
+use Rattle.std.proofs.Common.{refl, sym, ap, subst, inl, ◌∙◌}
 use Rattle.std.specs.Prelude.{ℕ, List, [], ◌∷◌, Ok, Err}
 use Rattle.tim_base.specs.Faults.{Rose}
-use Rattle.tool_texts.specs.declared.status.Status.TheVariants.{Done, Refused, Syntax}
+use Rattle.tool_texts.specs.declared.status.Status.TheVariants.{Done, Refused, Syntax as BadSyntax}
 use Rattle.tool_texts.specs.Ends.{Nothing, status_of, stop_text}
-use Rattle.tool_texts.specs.Texts.{program}
+use Rattle.tool_texts.specs.Texts.{program, accepted_line}
+use Rattle.mit_syntax.specs.Plan.{count, mitigates}
+use Rattle.mit_syntax.specs.Program.{Syntax, plan_of}
+use Rattle.timing_types.specs.Labelled.{LabelledProgram}
 use Rattle.tool_stages.specs.Fetches.{FileStops}
-use Rattle.lab_why.proofs.FaultLemmas.{file_why}
+use Rattle.lab_why.proofs.FaultLemmas.{explained_answers, file_why}
 use Rattle.tool_stages.proofs.FetchLemmas.{fetched_by}
 use Rattle.tool_texts.proofs.EndLemmas.{ends_finish, ends_stop}
-use Rattle.lab_why.specs.declared.explained.Explained.{Explained}
-use Rattle.lab_why.specs.Explained.{status_told, text_told}
+use Rattle.lab_why.specs.declared.explained.Explained.TheVariants as explained
+use Rattle.lab_why.specs.Explained.{IsExplained}
 use Rattle.lab_why.specs.Answers.{IsWhyAnswer}
 use Rattle.lab_why.proofs.why.why.Goals as goal
 
 pub returns-in-Ok-Accepted-clause-answered : goal.returns-in-Ok-Accepted-clause-answered
 returns-in-Ok-Accepted-clause-answered g c =
-    let answer = IsWhyAnswer (λ (name : List ℕ). Rose (g.S.Shelf.faults c.args.shelf.now name) (g.S.Shelf.faults c.explain.new.shelf name))
-    (g.S.Shelf.content c.args.shelf.now) c.args.file.now in
+    let rises = λ (name : List ℕ). Rose (g.S.Shelf.faults c.args.shelf.now name) (g.S.Shelf.faults c.explain.new.shelf name) in
+    let content = g.S.Shelf.content c.args.shelf.now in
+    let answer = IsWhyAnswer rises content c.args.file.now in
+    let told = subst (IsExplained (content c.args.file.now)) c.in-Ok-Accepted.field-0-is c.in-Ok-Accepted.ensures.told in
+    let same = c.program-program.ensures.program ∙ ap (λ (z : LabelledProgram). z.program) c.labelled.ensures.labelled in
+    let line = c.accepted-line.ensures ∙ (ap (λ n. accepted_line n c.mitigates.result) (c.commands.ensures ∙ ap (λ (z : Syntax). count (plan_of z)) same)
+    ∙ ap (accepted_line _) (c.mitigates.ensures ∙ ap (λ (z : Syntax). mitigates (plan_of z)) same)) in
     ends_finish (g.W.Sink.taken c.args.out.now) (g.W.Sink.taken c.finish.new.out) Nothing answer Done c.bytes.result.now c.finish.result
-    (subst (λ (t : List ℕ). answer Done t) (sym c.bytes.ensures) (subst (λ (z : Explained). answer (status_told z) (text_told z)) c.in-Ok-Accepted.field-0-is
-    c.in-Ok-Accepted.ensures.told)) c.finish.ensures.told c.finish.ensures.prefix
+    (subst (λ (t : List ℕ). answer Done t) (sym (c.bytes.ensures ∙ line))
+    (explained_answers (rises c.args.file.now) (content c.args.file.now) (explained.Accepted c.in-Ok-Accepted.typed) told))
+    c.finish.ensures.told c.finish.ensures.prefix
 
 pub returns-in-Ok-Refused-clause-answered : goal.returns-in-Ok-Refused-clause-answered
 returns-in-Ok-Refused-clause-answered g c =
-    let answer = IsWhyAnswer (λ (name : List ℕ). Rose (g.S.Shelf.faults c.args.shelf.now name) (g.S.Shelf.faults c.explain.new.shelf name))
-    (g.S.Shelf.content c.args.shelf.now) c.args.file.now in
+    let rises = λ (name : List ℕ). Rose (g.S.Shelf.faults c.args.shelf.now name) (g.S.Shelf.faults c.explain.new.shelf name) in
+    let content = g.S.Shelf.content c.args.shelf.now in
+    let answer = IsWhyAnswer rises content c.args.file.now in
+    let told = subst (IsExplained (content c.args.file.now)) c.in-Ok-Refused.field-0-is c.in-Ok-Refused.ensures.told in
     ends_finish (g.W.Sink.taken c.args.out.now) (g.W.Sink.taken c.finish-in-Ok-Refused.new.out) Nothing answer Refused c.as_slice.result.now
     c.finish-in-Ok-Refused.result
     (subst (λ (t : List ℕ). answer Refused t) (sym c.as_slice.ensures.value)
-    (subst (λ (z : Explained). answer (status_told z) (text_told z)) c.in-Ok-Refused.field-0-is c.in-Ok-Refused.ensures.told))
+    (explained_answers (rises c.args.file.now) (content c.args.file.now) (explained.Refused c.in-Ok-Refused.lines) told))
     c.finish-in-Ok-Refused.ensures.told c.finish-in-Ok-Refused.ensures.prefix
 
 pub returns-in-Ok-Faulty-clause-answered : goal.returns-in-Ok-Faulty-clause-answered
 returns-in-Ok-Faulty-clause-answered g c =
-    let answer = IsWhyAnswer (λ (name : List ℕ). Rose (g.S.Shelf.faults c.args.shelf.now name) (g.S.Shelf.faults c.explain.new.shelf name))
-    (g.S.Shelf.content c.args.shelf.now) c.args.file.now in
-    ends_finish (g.W.Sink.taken c.args.out.now) (g.W.Sink.taken c.finish-in-Ok-Faulty.new.out) Nothing answer Syntax c.as_slice-in-Ok-Faulty.result.now
+    let rises = λ (name : List ℕ). Rose (g.S.Shelf.faults c.args.shelf.now name) (g.S.Shelf.faults c.explain.new.shelf name) in
+    let content = g.S.Shelf.content c.args.shelf.now in
+    let answer = IsWhyAnswer rises content c.args.file.now in
+    let told = subst (IsExplained (content c.args.file.now)) c.in-Ok-Faulty.field-0-is c.in-Ok-Faulty.ensures.told in
+    ends_finish (g.W.Sink.taken c.args.out.now) (g.W.Sink.taken c.finish-in-Ok-Faulty.new.out) Nothing answer BadSyntax c.as_slice-in-Ok-Faulty.result.now
     c.finish-in-Ok-Faulty.result
-    (subst (λ (t : List ℕ). answer Syntax t) (sym c.as_slice-in-Ok-Faulty.ensures.value)
-    (subst (λ (z : Explained). answer (status_told z) (text_told z)) c.in-Ok-Faulty.field-0-is c.in-Ok-Faulty.ensures.told))
+    (subst (λ (t : List ℕ). answer BadSyntax t) (sym c.as_slice-in-Ok-Faulty.ensures.value)
+    (explained_answers (rises c.args.file.now) (content c.args.file.now) (explained.Faulty c.in-Ok-Faulty.lines) told))
     c.finish-in-Ok-Faulty.ensures.told c.finish-in-Ok-Faulty.ensures.prefix
 
 pub returns-in-Err-clause-answered : goal.returns-in-Err-clause-answered
@@ -63,7 +76,7 @@ returns-in-Ok-Refused-clause-fetched g c =
 
 pub returns-in-Ok-Faulty-clause-fetched : goal.returns-in-Ok-Faulty-clause-fetched
 returns-in-Ok-Faulty-clause-fetched g c =
-    fetched_by {A = Unit {0}} (c.args.file.now ∷ []) (g.S.Shelf.log c.args.shelf.now) (g.S.Shelf.log c.explain.new.shelf) Syntax
+    fetched_by {A = Unit {0}} (c.args.file.now ∷ []) (g.S.Shelf.log c.args.shelf.now) (g.S.Shelf.log c.explain.new.shelf) BadSyntax
     c.finish-in-Ok-Faulty.result (Ok tt) (λ e. absurd cc) c.in-Ok-Faulty.ensures.log (λ n. (c.finish-in-Ok-Faulty.ensures.told n).0)
 
 pub returns-in-Err-clause-fetched : goal.returns-in-Err-clause-fetched

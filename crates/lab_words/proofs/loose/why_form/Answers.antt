@@ -6,4 +6,5 @@ use Rattle.lab_words.proofs.loose.why_form.Goals as goal
 pub returns : goal.returns
 returns c =
     let first = c.in_ok-arg.ensures.shape (search rules) ∙ ap₂ with_rule c.bare_form.ensures c.new.ensures.rule in
-    IfOk-weaker c.arg-2.result _ _ (λ m h. h.shape c.option.ensures.local ∙ ap₂ with_rule first c.option.ensures.rule) c.arg-2.ensures
+    let second = c.in_ok-arg-2.ensures.shape (search rules) ∙ ap₂ with_rule first c.new-2.ensures.rule in
+    IfOk-weaker c.arg-3.result _ _ (λ m h. h.shape c.option.ensures.local ∙ ap₂ with_rule second c.option.ensures.rule) c.arg-3.ensures

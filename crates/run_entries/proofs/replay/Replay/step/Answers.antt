@@ -14,24 +14,24 @@ returns-in_default c =
 
 pub returns-in-Nothing : goal.returns-in-Nothing
 returns-in-Nothing c =
-    went_for _ _ _ _ _ _ _ _ (ap what_of c.in-Nothing.is) (c.in-Some.ensures).0
-    (c.wait.ensures.nothing (numbers_of c.args.numbers.now) c.args.limit refl (c.in-Some.ensures).1)
+    went_for _ _ _ _ _ _ _ _ _ (ap what_of c.in-Nothing.is) (c.in-Some.ensures).0
+    (c.wait.ensures.nothing (numbers_of c.args.numbers.now) c.args.marked.now c.args.limit refl (c.in-Some.ensures).1)
 
 pub returns-in-Pushed : goal.returns-in-Pushed
 returns-in-Pushed c =
-    went_for _ _ _ _ _ _ _ _ (ap what_of c.in-Pushed.is) (c.in-Some.ensures).0
-    (c.wait-in-Pushed.ensures.pushed (numbers_of c.args.numbers.now) c.args.limit c.in-Pushed.place refl (c.in-Some.ensures).1)
+    went_for _ _ _ _ _ _ _ _ _ (ap what_of c.in-Pushed.is) (c.in-Some.ensures).0
+    (c.wait-in-Pushed.ensures.pushed (numbers_of c.args.numbers.now) c.args.marked.now c.args.limit c.in-Pushed.place refl (c.in-Some.ensures).1)
 
 pub returns-in_ok-assign-in-Assigned : goal.returns-in_ok-assign-in-Assigned
 returns-in_ok-assign-in-Assigned c =
-    went_for _ _ _ _ _ _ _ _
+    went_for _ _ _ _ _ _ _ _ _
     (ap what_of c.in-Assigned.is ∙ ap (λ z. Assigned c.in-Assigned.variable z) (sym (search (rules, to_z-of_z)))) (c.in-Some.ensures).0
-    (c.in_ok-assign-in-Assigned.ensures (numbers_of c.args.numbers.now) c.args.limit (c.in-Some.ensures).1)
+    (c.in_ok-assign-in-Assigned.ensures (numbers_of c.args.numbers.now) c.args.marked.now c.args.limit (c.in-Some.ensures).1)
 
 pub returns-in_ok-open-in-Opens : goal.returns-in_ok-open-in-Opens
 returns-in_ok-open-in-Opens c =
     let one : to_z w64 (of_z w64 c.in-Opens.opening.estimate) ≡ c.in-Opens.opening.estimate = search (rules, to_z-of_z) in
     let two : to_z w64 (of_z w64 c.estimate-estimate.result) ≡ c.estimate-estimate.result = search (rules, to_z-of_z) in
-    went_for _ _ _ _ _ _ _ _ (ap what_of c.in-Opens.is) (c.in-Some.ensures).0
-    (c.in_ok-open-in-Opens.ensures c.args.limit (c.in-Some.ensures).1 (numbers_of c.args.numbers.now)
+    went_for _ _ _ _ _ _ _ _ _ (ap what_of c.in-Opens.is) (c.in-Some.ensures).0
+    (c.in_ok-open-in-Opens.ensures c.args.limit (c.in-Some.ensures).1 (numbers_of c.args.numbers.now) c.args.marked.now
     (ap (λ z. estimate_by (numbers_of c.args.numbers.now) z c.args.self.now.pushed) (sym one) ∙ (sym c.estimate-estimate.ensures ∙ sym two)))

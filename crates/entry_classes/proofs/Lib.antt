@@ -1,0 +1,4 @@
+pub mod Exact
+pub mod Adding
+pub mod Turning
+pub mod Telling

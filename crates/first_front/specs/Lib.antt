@@ -1,0 +1,4 @@
+pub mod Told
+pub mod Intervals
+pub mod Front
+pub mod Chosen

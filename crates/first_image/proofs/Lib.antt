@@ -1,0 +1,3 @@
+pub mod Tuning
+pub mod Placing
+pub mod Alike

@@ -1,0 +1,4 @@
+pub mod Faults
+pub mod Reasons
+pub mod Answers
+pub mod Found
