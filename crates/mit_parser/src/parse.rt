@@ -30,12 +30,9 @@ fn assembled(
         unreachable!()
     };
     lattice.laws();
-    // What `len` says is needed: the declarations are few, and the names in a table differ.
-    let _ = names.variables.len();
-    let table = names.variables.into_table();
-    let _ = table.len();
+    names.variables.laws();
     let lattice = Box::new(alloc, lattice)?;
-    Ok(Program::of(lattice, pairs, table, body))
+    Ok(Program::of(lattice, pairs, names.variables, body))
 }
 
 /// The program that the tokens of a text of at most 2^31 - 1 bytes spell.
@@ -53,7 +50,10 @@ pub fn parse(alloc: Global, tokens: &[Token], text: &[u8]) -> Result<Program, Pa
     ensures { MatchResult result (IsProgram (told text.now tokens.now)) (Refuses (told text.now tokens.now)) }
 {
     let mut parser = Parser::new(text, tokens);
-    let Header { lattice, pairs } = parser.header(alloc)?;
+    let Header { lattice, pairs } = match parser.header(alloc) {
+        Ok(header) => header,
+        Err(fault) => return Err(fault),
+    };
     let variables = parser.variables(alloc, &lattice)?;
     let names = Names { lattice, variables };
     let body = parser.commands(alloc, &names)?;
