@@ -7,7 +7,6 @@ ghost use Rattle.mit_parser.specs.Spells.{IsProgram, Refuses};
 ghost use Rattle.mit_parser.specs.Assembly.{AreParts, IsAssembled};
 
 use crate::fault::ParseFault;
-use crate::header::Header;
 use crate::names::Names;
 use crate::parser::Parser;
 use label_lattice::label::Label;
@@ -50,12 +49,15 @@ pub fn parse(alloc: Global, tokens: &[Token], text: &[u8]) -> Result<Program, Pa
     ensures { MatchResult result (IsProgram (told text.now tokens.now)) (Refuses (told text.now tokens.now)) }
 {
     let mut parser = Parser::new(text, tokens);
-    let Header { lattice, pairs } = match parser.header(alloc) {
+    let header = match parser.header(alloc) {
         Ok(header) => header,
         Err(fault) => return Err(fault),
     };
-    let variables = parser.variables(alloc, &lattice)?;
-    let names = Names { lattice, variables };
+    let variables = parser.variables(alloc, &header.lattice)?;
+    let names = Names {
+        lattice: header.lattice,
+        variables,
+    };
     let body = parser.commands(alloc, &names)?;
     parser.laws();
     if !parser.is_at_end() {
@@ -63,7 +65,7 @@ pub fn parse(alloc: Global, tokens: &[Token], text: &[u8]) -> Result<Program, Pa
     }
     match parser.fault() {
         Some(fault) => Err(fault),
-        None => match assembled(alloc, pairs, names, body) {
+        None => match assembled(alloc, header.pairs, names, body) {
             Ok(program) => Ok(program),
             Err(_) => Err(ParseFault::Memory),
         },
