@@ -16,7 +16,6 @@ use mit_syntax::token::Token;
 use std::alloc::{AllocError, Global};
 
 // The program of these parts.
-#[inline(never)]
 fn assembled(
     alloc: Global,
     pairs: Vec<(Label, Label)>,

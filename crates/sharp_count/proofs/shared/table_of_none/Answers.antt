@@ -12,7 +12,8 @@ loop-powers-init c =
 
 pub loop-powers-preserved : goal.loop-powers-preserved
 loop-powers-preserved c =
-    push_row (IsRow 0) c.loop-powers.table.items c.push-in-loop-powers.new.self.items (replicate {A = ℕ} 65 0) c.loop-powers._powers c.in_ok-push-2.ensures.items
+    push_row (IsRow 0) c.loop-powers.table.items c.push-in-loop-powers.new.self.items (replicate {A = ℕ} 65 0) c.loop-powers._powers
+    c.in_ok-push-2.ensures.items
     c.loop-powers.invariant.0 (zeros c.loop-powers._powers (omega (arith, c.loop-powers.auto._powers))) c.loop-powers.invariant.1
 
 pub returns-clause-rows : goal.returns-clause-rows
