@@ -68,7 +68,7 @@ function guessText({ runs, right, guesses }) {
   return '<h3>Who guesses the start, each being as likely</h3><table class="numbers"><tbody>'
     + row(of(right.before), right.before / runs, HALF, 'right at first, before the run is seen')
     + row(of(right.after), right.after / runs, HALF, 'right at first, after it')
-    + `</tbody></table><p class="word">On the average it takes ${fractionText(guesses.before)} guesses before, and`
+    + `</tbody></table><p class="word">Guesses needed on the average: ${fractionText(guesses.before)} before, and`
     + ` ${fractionText(guesses.after)} after.</p>`;
 }
 

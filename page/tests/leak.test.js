@@ -121,9 +121,9 @@ test('the chances of the first guess, and how many it takes', () => {
   assert.match(text, /\|1 of 9\|right at first, before the run is seen\|/);
   assert.match(text, /\|3 of 9\|right at first, after it\|/);
   // 50/18 = 2.777
-  assert.match(text, /On the average it takes 5 guesses before, and 50\/18, from 2\.77 to 2\.78, after\./);
+  assert.match(text, /Guesses needed on the average: 5 before, and 50\/18, from 2\.77 to 2\.78, after\./);
   assert.match(plain(leakNumbers({ ...leak, guesses: { before: [5, 2], after: [10, 8] } })),
-    /takes 2\.5 guesses before, and 1\.25 after\./);
+    /average: 2\.5 before, and 1\.25 after\./);
 });
 
 test('entropies are intervals, as they are told', () => {
