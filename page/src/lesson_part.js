@@ -141,7 +141,8 @@ function guess(chosen) {
   guesses[number] = chosen;
   drawGuess();
   drawTask();
-  goToPart(false); // the lesson's own box has grown
+  $('lesson-guess').lastElementChild.scrollIntoView({ block: 'nearest' }); // what is told then, within the lesson's box
+  goToPart(false); // which has grown
   $('lesson-guess').focus({ preventScroll: true });
 }
 
