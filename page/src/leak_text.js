@@ -59,7 +59,7 @@ function limitsText({ distinct, sharp, base, exponent, sharing, isSpace }) {
 function fractionText([above, below]) {
   const hundredths = 100n * BigInt(above), of = BigInt(below), low = Number(hundredths / of);
   if (hundredths % of === 0n) return spaced(low / 100);
-  const cent = (number) => (number / 100).toFixed(2);
+  const cent = (number) => `${spaced(Math.floor(number / 100))}.${String(number % 100).padStart(2, '0')}`;
   return `${spaced(above)}/${spaced(below)}, from ${cent(low)} to ${cent(low + 1)},`;
 }
 
