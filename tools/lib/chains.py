@@ -7,7 +7,7 @@ part, right side, number of the condition in the walk). A part and a right side 
 """
 NOUNS = {"skip", "if", "while", "mitigate", "sleep"}
 BOUNDS = {"reads": "from it", "reads in index": "with it", "has read label": "with it", "under guard": "under it"}
-FAINT = {"after read label", "after assigning"}
+FAINT = {"after computing", "after read label", "after assigning"}
 
 
 def written(program, spot):
@@ -48,12 +48,13 @@ class Steps:
 
     def after(self, command, time):
         """The time after a command's own reading, where this was the time before it."""
-        parts = self.reads("after reading", command, command["value"]) if "value" in command else []
+        reads = "after computing" if command["form"] in ("assign", "put") else "after reading"
+        parts = self.reads(reads, command, command["value"]) if "value" in command else []
         parts += self.read_label("after read label", command)
         if command["form"] in ("assign", "put"):
             parts.append(("after assigning", command["place"], ("variable", command["name"][1])))
         if "index" in command:
-            parts += self.reads("after reading", command, command["index"])
+            parts += self.reads(reads, command, command["index"])
         return list(dict.fromkeys(time + parts))
 
     def ends(self, commands, time):
@@ -169,6 +170,8 @@ class Lines:
             "has read label": has,
             "under guard": self.line(at, f"this guard reads {name}"),
             "after reading": self.line(at, f"this {self.reader(place)} reads {name}") + takes,
+            "after computing": self.line(at, f"this {self.reader(place)} reads {name}")
+            + self.line(place, f"so how long this assignment takes counts as {label}"),
             "after read label": has + takes,
             "after assigning": self.line(place, f"this assigns to {name}") + self.line(place, f"so when it is done is {label}"),
         }[how]

@@ -9,14 +9,14 @@ use Rattle.mit_syntax.specs.Todo.{Done, Skip, Assign, Put, Sleep, If, While, Mit
 use Rattle.mit_syntax.specs.Plan.{Written, Plan}
 use Rattle.mit_syntax.specs.Program.{Syntax}
 use Rattle.flow_path.specs.declared.step.Spot.TheVariants.{Variable as OfVariable}
-use Rattle.flow_path.specs.declared.step.How.TheVariants.{AfterReading, AfterReadLabel, AfterAssigning}
+use Rattle.flow_path.specs.declared.step.How.TheVariants.{AfterReading, AfterComputing, AfterReadLabel, AfterAssigning}
 use Rattle.flow_path.specs.declared.step.Part.{Part}
 use Rattle.flow_path.specs.declared.cost.Cost.{Cost}
 use Rattle.flow_path.specs.declared.target.Target.{Target}
 use Rattle.flow_path.specs.declared.best.Best.{Best}
 use Rattle.flow_path.specs.Steps.{one, reads, read_label, after, after_set, after_put, ends}
 use Rattle.flow_path.specs.Distances.{PartCosts, IsBest, AreNoCheaperThan}
-use Rattle.flow_path.proofs.Base.{contains_left}
+use Rattle.flow_path.proofs.Base.{contains_left, computed}
 use Rattle.flow_path.proofs.Costing.{le_trans}
 use Rattle.flow_path.proofs.Settling.{first_in}
 use Rattle.flow_path.proofs.Firsts.{none_append, first_left, nothing_best}
@@ -46,6 +46,9 @@ none_in xs y c = let q = c.1 in absurd (omega (arith, q))
 abbrev pub R : Written → Expression → List Part
 R w e = reads AfterReading w.pos e
 
+abbrev pub C : Written → Expression → List Part
+C w e = reads AfterComputing w.pos e
+
 abbrev pub M : Written → List Part
 M w = read_label AfterReadLabel w.pos w.labels
 
@@ -53,13 +56,13 @@ after_in : (A B : List Part) (w : Written) (e : Expression) → In A B → In (a
 after_in A B w e h = wider A (R w e ++ M w) B (R w e ++ M w) h (same_in (R w e ++ M w))
 
 set_in : (A B : List Part) (w : Written) (x : ℕ) (e : Expression) → In A B → In (after_set A w x e) (after_set B w x e)
-set_in A B w x e h = wider (after A w e) S (after B w e) S (after_in A B w e h) (same_in S)
+set_in A B w x e h = wider (computed A w e) S (computed B w e) S (wider A (C w e ++ M w) B (C w e ++ M w) h (same_in (C w e ++ M w))) (same_in S)
   where
     S : List Part
     S = one AfterAssigning w.pos (OfVariable x)
 
 put_in : (A B : List Part) (w : Written) (f : ℕ) (i e : Expression) → In A B → In (after_put A w f i e) (after_put B w f i e)
-put_in A B w f i e h = wider (after_set A w f e) (R w i) (after_set B w f e) (R w i) (set_in A B w f e h) (same_in (R w i))
+put_in A B w f i e h = wider (after_set A w f e) (C w i) (after_set B w f e) (C w i) (set_in A B w f e h) (same_in (C w i))
 
 -- what is there at the start is there at the end
 pub up : (p : Plan) (A B : List Part) → In A B → In (ends p A) (ends p B)
@@ -91,7 +94,8 @@ then : (xs ys zs : List Part) → Longer xs ys → Longer ys zs → Longer xs zs
 then xs ys zs a b = record { more = a.more ++ b.more; is = b.is ∙ ap (λ z. z ++ b.more) a.is ∙ append_assoc xs a.more b.more }
 
 set_longer : (A : List Part) (w : Written) (x : ℕ) (e : Expression) → Longer A (after_set A w x e)
-set_longer A w x e = then A (after A w e) (after_set A w x e) (longer_by A (R w e ++ M w)) (longer_by (after A w e) (one AfterAssigning w.pos (OfVariable x)))
+set_longer A w x e =
+    then A (computed A w e) (after_set A w x e) (longer_by A (C w e ++ M w)) (longer_by (computed A w e) (one AfterAssigning w.pos (OfVariable x)))
 
 pub begins : (p : Plan) (A : List Part) → Longer A (ends p A)
 begins Done A = longer_same A
@@ -99,7 +103,7 @@ begins (Skip w p) A = then A (A ++ M w) (ends (Skip w p) A) (longer_by A (M w)) 
 begins (Assign w x e p) A = then A (after_set A w x e) (ends (Assign w x e p) A) (set_longer A w x e) (begins p (after_set A w x e))
 begins (Put w f n i e p) A =
     then A (after_set A w f e) (ends (Put w f n i e p) A) (set_longer A w f e)
-    (then (after_set A w f e) (after_put A w f i e) (ends (Put w f n i e p) A) (longer_by (after_set A w f e) (R w i)) (begins p (after_put A w f i e)))
+    (then (after_set A w f e) (after_put A w f i e) (ends (Put w f n i e p) A) (longer_by (after_set A w f e) (C w i)) (begins p (after_put A w f i e)))
 begins (Sleep w e p) A = then A (after A w e) (ends (Sleep w e p) A) (longer_by A (R w e ++ M w)) (begins p (after A w e))
 begins (If w e a b p) A =
     let S = after A w e in
@@ -144,13 +148,14 @@ split_after w e = split_by (R w e ++ M w)
 
 split_set : (w : Written) (x : ℕ) (e : Expression) → Splits (λ A. after_set A w x e)
 split_set w x e =
-    split_then (λ A. after A w e) (λ A. A ++ one AfterAssigning w.pos (OfVariable x)) (split_after w e) (split_by (one AfterAssigning w.pos (OfVariable x)))
-    (in_left (after [] w e) (one AfterAssigning w.pos (OfVariable x))) (in_right (after [] w e) (one AfterAssigning w.pos (OfVariable x)))
+    split_then (λ A. computed A w e) (λ A. A ++ one AfterAssigning w.pos (OfVariable x)) (split_by (C w e ++ M w))
+    (split_by (one AfterAssigning w.pos (OfVariable x))) (in_left (computed [] w e) (one AfterAssigning w.pos (OfVariable x)))
+    (in_right (computed [] w e) (one AfterAssigning w.pos (OfVariable x)))
 
 split_put : (w : Written) (f : ℕ) (i e : Expression) → Splits (λ A. after_put A w f i e)
 split_put w f i e =
-    split_then (λ A. after_set A w f e) (λ A. A ++ R w i) (split_set w f e) (split_by (R w i)) (in_left (after_set [] w f e) (R w i))
-    (in_right (after_set [] w f e) (R w i))
+    split_then (λ A. after_set A w f e) (λ A. A ++ C w i) (split_set w f e) (split_by (C w i)) (in_left (after_set [] w f e) (C w i))
+    (in_right (after_set [] w f e) (C w i))
 
 pub split : (p : Plan) → Splits (ends p)
 split Done = λ A y c. inl c

@@ -21,7 +21,7 @@ pub(crate) fn is_faint(how: How) -> bool
     match how {
         How::Reads | How::ReadsInIndex | How::HasReadLabel | How::UnderGuard | How::AfterReading =>
             false,
-        How::AfterReadLabel | How::AfterAssigning => true,
+        How::AfterComputing | How::AfterReadLabel | How::AfterAssigning => true,
     }
 }
 

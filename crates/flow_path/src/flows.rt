@@ -287,6 +287,7 @@ fn list_flows(commands: &[Command], pc: u32, t: u32, flows: &mut Flows) -> Resul
 }
 
 /// The flows of a program, where chains are to end at a target.
+#[inline(never)]
 pub(crate) fn flows_of(alloc: Global, p: &Program, target: &Target) -> Result<Flows, AllocError> {
     let mut flows = Flows::new(alloc, p, target)?;
     let _end = list_flows(p.body(), NOWHERE, NOWHERE, &mut flows)?;

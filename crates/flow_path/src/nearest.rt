@@ -157,6 +157,7 @@ fn turn(p: &Program, flows: &Flows, known: &mut Known, front: &mut Front) -> Res
 }
 
 /// What the cheapest chains to each label cost. Each is right where one pass over the program finds the same.
+#[inline(never)]
 pub(crate) fn nearest(alloc: Global, p: &Program, target: &Target) -> Result<Known, AllocError>
     ensures { IfOk result (IsKnownOf p.now target.now) }
 {

@@ -109,7 +109,26 @@ pub(crate) fn after_skip(
     better(t, label)
 }
 
-/// Of the time after a command that reads an expression.
+/// Of the time after a command that reads an expression in this way.
+fn after_by(
+    t: Option<Best>,
+    how: How,
+    pos: Pos,
+    labels: &Option<(Label, Label)>,
+    e: &Expr,
+    round: &Round,
+) -> Option<Best>
+    requires { IsKnownIn round.now }
+    ensures { (T : List APart) → IsBestIn round.now T t
+        → IsBestIn round.now (T ++ (reads how pos (expression_of e.now) ++ read_label WhenAfter pos labels.now)) result }
+{
+    let read = reads(e, how, pos, round);
+    let label = read_label(labels, How::AfterReadLabel, pos, round);
+    let own = better(read, label);
+    better(t, own)
+}
+
+/// Of the time after a `sleep`, a guard or an estimate.
 pub(crate) fn after(
     t: Option<Best>,
     pos: Pos,
@@ -121,10 +140,7 @@ pub(crate) fn after(
     ensures { (T : List APart) → IsBestIn round.now T t
         → IsBestIn round.now (after T (record { pos = pos; labels = labels.now }) (expression_of e.now)) result }
 {
-    let read = reads(e, How::AfterReading, pos, round);
-    let label = read_label(labels, How::AfterReadLabel, pos, round);
-    let own = better(read, label);
-    better(t, own)
+    after_by(t, How::AfterReading, pos, labels, e, round)
 }
 
 /// Of the time after an assignment to a variable.
@@ -140,7 +156,7 @@ pub(crate) fn after_set(
     ensures { (T : List APart) → IsBestIn round.now T t
         → IsBestIn round.now (after_set T (record { pos = pos; labels = labels.now }) x (expression_of e.now)) result }
 {
-    let read = after(t, pos, labels, e, round);
+    let read = after_by(t, How::AfterComputing, pos, labels, e, round);
     let part = Part {
         how: How::AfterAssigning,
         pos,
@@ -165,7 +181,7 @@ pub(crate) fn after_put(
         → IsBestIn round.now (after_put T (record { pos = pos; labels = labels.now }) first (expression_of index.now) (expression_of e.now)) result }
 {
     let set = after_set(t, pos, labels, first, e, round);
-    let read = reads(index, How::AfterReading, pos, round);
+    let read = reads(index, How::AfterComputing, pos, round);
     better(set, read)
 }
 

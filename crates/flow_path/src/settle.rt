@@ -198,6 +198,7 @@ fn all_agree(p: &Program, known: &[Option<Cost>], found: &[Option<Found>]) -> bo
 
 /// The first of the cheapest steps to each label, where the costs are found in rounds, the least first: a pass for each
 /// different cost.
+#[inline(never)]
 fn settled_in_rounds(alloc: Global, p: &Program, target: &Target) -> Result<Sides, AllocError>
     ensures { IfOk result (λ v. AreSettled p.now target.now v) }
 {

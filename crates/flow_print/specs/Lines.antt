@@ -10,7 +10,8 @@ use Rattle.mit_syntax.specs.Program.{Syntax}
 use Rattle.flow_path.specs.declared.step.Spot.{Spot}
 use Rattle.flow_path.specs.declared.step.Spot.TheVariants.{Variable, Command, Level}
 use Rattle.flow_path.specs.declared.step.How.{How}
-use Rattle.flow_path.specs.declared.step.How.TheVariants.{Reads, ReadsInIndex, HasReadLabel, UnderGuard, AfterReading, AfterReadLabel, AfterAssigning}
+use Rattle.flow_path.specs.declared.step.How.TheVariants.{Reads, ReadsInIndex, HasReadLabel, UnderGuard}
+use Rattle.flow_path.specs.declared.step.How.TheVariants.{AfterReading, AfterComputing, AfterReadLabel, AfterAssigning}
 use Rattle.flow_path.specs.declared.step.Step.{Step}
 use Rattle.flow_path.specs.declared.origins.Origin.{Origin}
 use Rattle.flow_path.specs.Steps.{written}
@@ -57,6 +58,10 @@ reads_line T ts q v w = place_text (next_place T ts q w) ++ line v w
 abbrev pub time_line : List Token → Pos → List ℕ → List ℕ
 time_line ts q a = place_text q ++ (codes "so how long this " ++ (noun (kind_at ts q) ++ line (codes " takes is ") a))
 
+-- on the time of an assignment, which by the rules has the label of each variable that the assignment reads
+abbrev pub counts_line : Pos → List ℕ → List ℕ
+counts_line q a = place_text q ++ line (codes "so how long this assignment takes counts as ") a
+
 -- on its read label
 abbrev pub label_line : List Token → Pos → List ℕ → List ℕ
 label_line ts q w = place_text q ++ (codes "this " ++ (noun (kind_at ts q) ++ line (codes " has the read label ") w))
@@ -72,6 +77,7 @@ part_lines T ts ReadsInIndex q w a = reads_line T ts q (codes "this index reads 
 part_lines T ts HasReadLabel q w a = label_line ts q w
 part_lines T ts UnderGuard q w a = reads_line T ts q (codes "this guard reads ") w
 part_lines T ts AfterReading q w a = reader_line T ts q w ++ time_line ts q a
+part_lines T ts AfterComputing q w a = reader_line T ts q w ++ counts_line q a
 part_lines T ts AfterReadLabel q w a = label_line ts q w ++ time_line ts q a
 part_lines T ts AfterAssigning q w a = place_text q ++ (line (codes "this assigns to ") w ++ (place_text q ++ line (codes "so when it is done is ") a))
 
@@ -82,6 +88,7 @@ bound ReadsInIndex = codes "with it"
 bound HasReadLabel = codes "with it"
 bound UnderGuard = codes "under it"
 bound AfterReading = codes "after it"
+bound AfterComputing = codes "after it"
 bound AfterReadLabel = codes "after it"
 bound AfterAssigning = codes "after it"
 

@@ -4,7 +4,7 @@ ghost use Rattle.std.specs.Prelude.{◌≡◌, ◌++◌, OnOk, None};
 ghost use Rattle.mit_syntax.specs.Program.{Syntax};
 ghost use Rattle.flow_path.specs.Steps.{written};
 ghost use Rattle.flow_path.specs.declared.step.Spot.TheVariants.{Variable as AVariable};
-ghost use Rattle.flow_print.specs.Lines.{label_text, place_text, line, reads_line, time_line, label_line, reader_line, part_lines};
+ghost use Rattle.flow_print.specs.Lines.{label_text, place_text, line, reads_line, time_line, counts_line, label_line, reader_line, part_lines};
 ghost use Rattle.flow_print.specs.Lines.{variable_text, variable_line, command_line, level_line, side_line, step_lines, first_line, place_if};
 
 use crate::places::Spelling;
@@ -133,6 +133,15 @@ pub fn put_line_at(out: &mut Vec<u8>, q: Pos, words: &[u8], last: &[u8]) -> Resu
     Ok(())
 }
 
+/// Puts a line on the time of an assignment.
+pub fn put_counts(out: &mut Vec<u8>, q: Pos, first: &[u8]) -> Result<(), AllocError>
+    ensures { OnOk result (out.new.items ≡ out.old.items ++ counts_line q first.now) }
+{
+    let words = b"so how long this assignment takes counts as ".as_slice();
+    put_line_at(out, q, words, first)?;
+    Ok(())
+}
+
 /// Puts two lines at a place.
 fn put_two_at(
     out: &mut Vec<u8>,
@@ -168,6 +177,11 @@ fn put_part(
         How::AfterReading => {
             put_reader(out, spelling, q, name)?;
             put_time(out, spelling, q, first)?;
+            Ok(())
+        }
+        How::AfterComputing => {
+            put_reader(out, spelling, q, name)?;
+            put_counts(out, q, first)?;
             Ok(())
         }
         How::AfterReadLabel => {

@@ -49,6 +49,7 @@ pub fn bound(how: How) -> &'static [u8]
         How::HasReadLabel => b"with it".as_slice(),
         How::UnderGuard => b"under it".as_slice(),
         How::AfterReading => b"after it".as_slice(),
+        How::AfterComputing => b"after it".as_slice(),
         How::AfterReadLabel => b"after it".as_slice(),
         How::AfterAssigning => b"after it".as_slice(),
     }

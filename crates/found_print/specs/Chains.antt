@@ -6,10 +6,11 @@ use Rattle.mit_syntax.specs.Program.{Syntax}
 use Rattle.flow_path.specs.declared.step.Spot.{Spot}
 use Rattle.flow_path.specs.declared.step.Spot.TheVariants.{Variable, Command, Level}
 use Rattle.flow_path.specs.declared.step.How.{How}
-use Rattle.flow_path.specs.declared.step.How.TheVariants.{Reads, ReadsInIndex, HasReadLabel, UnderGuard, AfterReading, AfterReadLabel, AfterAssigning}
+use Rattle.flow_path.specs.declared.step.How.TheVariants.{Reads, ReadsInIndex, HasReadLabel, UnderGuard}
+use Rattle.flow_path.specs.declared.step.How.TheVariants.{AfterReading, AfterComputing, AfterReadLabel, AfterAssigning}
 use Rattle.flow_path.specs.declared.step.Step.{Step}
 use Rattle.flow_print.specs.Places.{next_place, declared_place, spelled_at}
-use Rattle.flow_print.specs.Lines.{line, place_text, reads_line, reader_line, time_line, label_line, side_line, bound, spot_text, written_text}
+use Rattle.flow_print.specs.Lines.{line, place_text, reads_line, reader_line, time_line, counts_line, label_line, side_line, bound, spot_text, written_text}
 use Rattle.json_text.specs.Json.{Json, Items, Members, string, object, item, no_items, items_then, member, no_members}
 use Rattle.found_print.specs.Members.{there, but_feed}
 
@@ -34,6 +35,8 @@ part_items T ts HasReadLabel q w a more = placed_item T ts q (label_line ts q w)
 part_items T ts UnderGuard q w a more = placed_item T ts (next_place T ts q w) (reads_line T ts q (codes "this guard reads ") w) more
 part_items T ts AfterReading q w a more =
     placed_item T ts (next_place T ts q w) (reader_line T ts q w) (placed_item T ts q (time_line ts q a) more)
+part_items T ts AfterComputing q w a more =
+    placed_item T ts (next_place T ts q w) (reader_line T ts q w) (placed_item T ts q (counts_line q a) more)
 part_items T ts AfterReadLabel q w a more = placed_item T ts q (label_line ts q w) (placed_item T ts q (time_line ts q a) more)
 part_items T ts AfterAssigning q w a more =
     placed_item T ts q (place_text q ++ line (codes "this assigns to ") w)

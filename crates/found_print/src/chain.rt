@@ -1,7 +1,7 @@
 //! The items that tell a chain.
 
 ghost use Rattle.std.specs.Prelude.{◌≡◌, ◌++◌, OnOk, codes};
-ghost use Rattle.flow_print.specs.Lines.{line, bound, side_line, place_text, reads_line, reader_line, label_line, time_line};
+ghost use Rattle.flow_print.specs.Lines.{line, bound, side_line, place_text, reads_line, reader_line, label_line, time_line, counts_line};
 ghost use Rattle.flow_print.specs.Places.{next_place, declared_place};
 ghost use Rattle.json_text.specs.Json.{json_text, item, items_text, list, object, member, no_members, string};
 ghost use Rattle.found_print.specs.Members.{but_feed};
@@ -11,7 +11,9 @@ ghost use Rattle.found_print.specs.Puts.{PutsItems};
 
 use crate::members::{but_feed, put_places};
 use flow_path::step::{How, Spot, Step};
-use flow_print::lines::{put_line_at, put_read_label, put_reader, put_reads, put_side, put_time};
+use flow_print::lines::{
+    put_counts, put_line_at, put_read_label, put_reader, put_reads, put_side, put_time,
+};
 use flow_print::places::Spelling;
 use flow_print::words::{bound, put_line, spot_text, written_text};
 use json_text::put::{put_first_bare, put_first_key, put_key, put_string};
@@ -143,6 +145,22 @@ fn put_time_there(
     put_placed(out, spelling, q, line.as_slice())
 }
 
+// Puts how long an assignment takes.
+fn put_counts_there(
+    alloc: Global,
+    out: &mut Vec<u8>,
+    spelling: &Spelling,
+    q: Pos,
+    first: &[u8],
+) -> Result<(), AllocError>
+    ensures { OnOk result (PutsItems out.old.items out.new.items (placed_item spelling.now.text.now spelling.now.tokens.now q
+        (counts_line q first.now))) }
+{
+    let mut line = Vec::new(alloc);
+    put_counts(&mut line, q, first)?;
+    put_placed(out, spelling, q, line.as_slice())
+}
+
 // Puts other words on a command.
 fn put_words_there(
     alloc: Global,
@@ -181,6 +199,11 @@ fn put_part(
         How::AfterReading => {
             put_before(alloc, out, spelling, q, name)?;
             put_time_there(alloc, out, spelling, q, first)?;
+            Ok(())
+        }
+        How::AfterComputing => {
+            put_before(alloc, out, spelling, q, name)?;
+            put_counts_there(alloc, out, spelling, q, first)?;
             Ok(())
         }
         How::AfterReadLabel => {

@@ -25,7 +25,8 @@ pub fn put_shared(
     ensures { OnOk result (SharedPut typed.now.labelled observer.number t levels.now text.old.items text.new.items) }
 {
     if stand_apart(alloc, typed, observer)? {
-        put_shared_line(text, shared_product(levels, t))?;
+        let count = shared_product(alloc, levels, t)?;
+        put_shared_line(text, count)?;
     }
     Ok(())
 }

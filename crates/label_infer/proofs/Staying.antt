@@ -3,7 +3,7 @@
 use Rattle.std.proofs.Common.{◌≡◌, ℕ, refl, sym, ap, ◌∙◌}
 use Rattle.mit_syntax.specs.Expression.{Expression}
 use Rattle.mit_syntax.specs.Todo.{Todo, Done, Skip, Assign, Put, Sleep, If, While, Mitigate}
-use Rattle.timing_types.specs.OneWalk.{Sides, AfterReading, AfterReadLabel, AfterAssigning, reads, after, after_set, after_put, ends}
+use Rattle.timing_types.specs.OneWalk.{Sides, How, AfterReading, AfterComputing, AfterReadLabel, AfterAssigning, reads, after, after_set, after_put, ends}
 
 module _ {L M : Type 0} (A : Sides L M) (assoc : (x y z : L) → A.both (A.both x y) z ≡ A.both x (A.both y z))
     (comm : (x y : L) → A.both x y ≡ A.both y x) (idem : (x : L) → A.both x x ≡ x) where
@@ -15,31 +15,33 @@ module _ {L M : Type 0} (A : Sides L M) (assoc : (x y z : L) → A.both (A.both 
       assoc x u (A.both y u) ∙ ap (A.both x) (sym (assoc u y u) ∙ ap (λ z. A.both z u) (comm u y) ∙ assoc y u u ∙ ap (A.both y) (idem u))
       ∙ sym (assoc x y u)
 
-  after_moves : (m : M) (t u : L) (e : Expression) → after A (A.both t u) m e ≡ A.both (after A t m e) u
-  after_moves m t u e = swap t u (A.both (reads A AfterReading m e) (A.read AfterReadLabel m))
+  after_moves : (how : How) (m : M) (t u : L) (e : Expression) → after A how (A.both t u) m e ≡ A.both (after A how t m e) u
+  after_moves how m t u e = swap t u (A.both (reads A how m e) (A.read AfterReadLabel m))
 
   set_moves : (m : M) (t u : L) (x : ℕ) (e : Expression) → after_set A (A.both t u) m x e ≡ A.both (after_set A t m x e) u
-  set_moves m t u x e = ap (λ z. A.both z (A.variable AfterAssigning m x)) (after_moves m t u e) ∙ swap (after A t m e) u (A.variable AfterAssigning m x)
+  set_moves m t u x e =
+      ap (λ z. A.both z (A.variable AfterAssigning m x)) (after_moves AfterComputing m t u e)
+      ∙ swap (after A AfterComputing t m e) u (A.variable AfterAssigning m x)
 
   put_moves : (m : M) (t u : L) (f : ℕ) (i e : Expression) → after_put A (A.both t u) m f i e ≡ A.both (after_put A t m f i e) u
-  put_moves m t u f i e = ap (λ z. A.both z (reads A AfterReading m i)) (set_moves m t u f e) ∙ swap (after_set A t m f e) u (reads A AfterReading m i)
+  put_moves m t u f i e = ap (λ z. A.both z (reads A AfterComputing m i)) (set_moves m t u f e) ∙ swap (after_set A t m f e) u (reads A AfterComputing m i)
 
   pub moves : {N : Type 0} (p : Todo M N) (t u : L) → ends A p (A.both t u) ≡ A.both (ends A p t) u
   moves Done t u = refl
   moves (Skip m p) t u = ap (ends A p) (swap t u (A.read AfterReadLabel m)) ∙ moves p _ u
   moves (Assign m x e p) t u = ap (ends A p) (set_moves m t u x e) ∙ moves p _ u
   moves (Put m f n i e p) t u = ap (ends A p) (put_moves m t u f i e) ∙ moves p _ u
-  moves (Sleep m e p) t u = ap (ends A p) (after_moves m t u e) ∙ moves p _ u
+  moves (Sleep m e p) t u = ap (ends A p) (after_moves AfterReading m t u e) ∙ moves p _ u
   moves (If m e a b p) t u =
-      let start = after A t m e in
-      let ea = ap (ends A a) (after_moves m t u e) ∙ moves a start u in
-      let eb = ap (ends A b) (after_moves m t u e) ∙ moves b start u in
-      ap (λ z. ends A p (A.both z (ends A b (after A (A.both t u) m e)))) ea
+      let start = after A AfterReading t m e in
+      let ea = ap (ends A a) (after_moves AfterReading m t u e) ∙ moves a start u in
+      let eb = ap (ends A b) (after_moves AfterReading m t u e) ∙ moves b start u in
+      ap (λ z. ends A p (A.both z (ends A b (after A AfterReading (A.both t u) m e)))) ea
       ∙ ap (λ z. ends A p (A.both (A.both (ends A a start) u) z)) eb
       ∙ ap (ends A p) (twice (ends A a start) (ends A b start) u)
       ∙ moves p _ u
-  moves (While m e c p) t u = ap (ends A p) (ap (ends A c) (after_moves m t u e) ∙ moves c (after A t m e) u) ∙ moves p _ u
-  moves (Mitigate m k l e c p) t u = ap (ends A p) (after_moves m t u e) ∙ moves p _ u
+  moves (While m e c p) t u = ap (ends A p) (ap (ends A c) (after_moves AfterReading m t u e) ∙ moves c (after A AfterReading t m e) u) ∙ moves p _ u
+  moves (Mitigate m k l e c p) t u = ap (ends A p) (after_moves AfterReading m t u e) ∙ moves p _ u
 
   -- the end has all that the start has
   pub grows : {N : Type 0} (p : Todo M N) (t : L) → A.both (ends A p t) t ≡ ends A p t
@@ -60,8 +62,8 @@ module _ {L M : Type 0} (A : Sides L M) (assoc : (x y z : L) → A.both (A.both 
       let e = ends A rest next in
       between t next e (ap (λ z. A.both z t) (sym own) ∙ grows one t ∙ own) (grows rest next) (ap (A.both t) (sym is ∙ h) ∙ idem t)
 
-  up_after : (m : M) (t : L) (e : Expression) → A.both (after A t m e) t ≡ after A t m e
-  up_after m t e = sym (after_moves m t t e) ∙ ap (λ z. after A z m e) (idem t)
+  up_after : (m : M) (t : L) (e : Expression) → A.both (after A AfterReading t m e) t ≡ after A AfterReading t m e
+  up_after m t e = sym (after_moves AfterReading m t t e) ∙ ap (λ z. after A AfterReading z m e) (idem t)
 
   -- below what is below
   low : (t x y : L) → A.both t y ≡ t → A.both y x ≡ y → A.both t x ≡ t
@@ -69,26 +71,26 @@ module _ {L M : Type 0} (A : Sides L M) (assoc : (x y z : L) → A.both (A.both 
 
   -- so do the walks of a command's parts, where its own stays
   part_stays : {N : Type 0} (m : M) (e : Expression) (a p : Todo M N) (t both : L) → ends A p both ≡ t
-      → A.both both (ends A a (after A t m e)) ≡ both → ends A a (after A t m e) ≡ after A t m e
+      → A.both both (ends A a (after A AfterReading t m e)) ≡ both → ends A a (after A AfterReading t m e) ≡ after A AfterReading t m e
   part_stays m e a p t both h i =
-      let start = after A t m e in
+      let start = after A AfterReading t m e in
       between t start (ends A a start) (up_after m t e) (grows a start)
       (low t (ends A a start) both (ap (λ z. A.both z both) (sym h) ∙ grows p both ∙ h) i)
 
   pub then_stays : {N : Type 0} (m : M) (e : Expression) (a b p : Todo M N) (t : L) → ends A (If m e a b p) t ≡ t
-      → ends A a (after A t m e) ≡ after A t m e
+      → ends A a (after A AfterReading t m e) ≡ after A AfterReading t m e
   then_stays m e a b p t h =
-      let ea = ends A a (after A t m e) in
-      let eb = ends A b (after A t m e) in
+      let ea = ends A a (after A AfterReading t m e) in
+      let eb = ends A b (after A AfterReading t m e) in
       part_stays m e a p t (A.both ea eb) h (swap ea eb ea ∙ ap (λ z. A.both z eb) (idem ea))
 
   pub else_stays : {N : Type 0} (m : M) (e : Expression) (a b p : Todo M N) (t : L) → ends A (If m e a b p) t ≡ t
-      → ends A b (after A t m e) ≡ after A t m e
+      → ends A b (after A AfterReading t m e) ≡ after A AfterReading t m e
   else_stays m e a b p t h =
-      let ea = ends A a (after A t m e) in
-      let eb = ends A b (after A t m e) in
+      let ea = ends A a (after A AfterReading t m e) in
+      let eb = ends A b (after A AfterReading t m e) in
       part_stays m e b p t (A.both ea eb) h (assoc ea eb eb ∙ ap (A.both ea) (idem eb))
 
   pub body_stays : {N : Type 0} (m : M) (e : Expression) (c p : Todo M N) (t : L) → ends A (While m e c p) t ≡ t
-      → ends A c (after A t m e) ≡ after A t m e
-  body_stays m e c p t h = let ec = ends A c (after A t m e) in part_stays m e c p t ec h (idem ec)
+      → ends A c (after A AfterReading t m e) ≡ after A AfterReading t m e
+  body_stays m e c p t h = let ec = ends A c (after A AfterReading t m e) in part_stays m e c p t ec h (idem ec)

@@ -6,6 +6,7 @@ ghost use Rattle.label_write.specs.Written.{declarations_with_labels, plan_with_
 
 use crate::commands::write_list;
 use crate::declarations::write_declarations;
+use mit_syntax::declarations::Variables;
 use mit_syntax::print::print_program;
 use mit_syntax::program::Program;
 use std::alloc::{AllocError, Global};
@@ -45,7 +46,8 @@ fn program_of(alloc: Global, p: &Labelled) -> Result<Program, AllocError>
     let table = write_declarations(alloc, program.declarations(), labels, order)?;
     let (_, body) = write_list(alloc, commands, labels, order, 0)?;
     let order = Box::new(alloc, *order)?;
-    Ok(Program::of(order, pairs, table, body))
+    let variables = Variables::of(alloc, table)?;
+    Ok(Program::of(order, pairs, variables, body))
 }
 
 /// The canonical text of that program.

@@ -1,6 +1,6 @@
 //! The parser of declarations.
 
-ghost use Rattle.std.specs.Prelude.{◌≡◌, ◌≤◌, ◌<◌, ◌^◌, ◌+◌, ◌++◌, ◌∷◌, [], None, MatchResult, is_some, length};
+ghost use Rattle.std.specs.Prelude.{◌≡◌, ◌≤◌, ◌<◌, ◌^◌, ◌+◌, ◌++◌, ◌∷◌, [], None, IfOk, MatchResult, is_some, length};
 ghost use Rattle.mit_syntax.specs.Declarations.{declared, elements_in, length_in, AreFew};
 ghost use Rattle.mit_parser.specs.declared.fault.ParseFault.TheVariants.{Memory};
 ghost use Rattle.mit_parser.specs.Machine.{a_shape, a_declaration, declarations};
@@ -19,7 +19,7 @@ use label_lattice::lattice::Lattice;
 use label_lattice::name::Name;
 use mit_syntax::declarations::{Decl, MAX_ELEMENTS, MAX_VARIABLES, Variables};
 use mit_syntax::token::{Keyword, Sign};
-use std::alloc::Global;
+use std::alloc::{AllocError, Global};
 use std::marker::Model;
 use text_base::pos::Pos;
 
@@ -158,13 +158,13 @@ impl Table {
     }
 
     // The declarations, unless there are too many.
-    fn into_variables(self, alloc: Global) -> Variables
-        ensures { length self ≤ MAX_VARIABLES → result ≡ self }
+    fn into_variables(self, alloc: Global) -> Result<Variables, AllocError>
+        ensures { IfOk result (λ v. length self ≤ MAX_VARIABLES → v ≡ self) }
     {
         if self.entries.len() > MAX_VARIABLES as usize {
-            return Variables::of(IndexMap::new(alloc));
+            return Variables::of(alloc, IndexMap::new(alloc));
         }
-        Variables::of(self.entries)
+        Variables::of(alloc, self.entries)
     }
 }
 
@@ -281,6 +281,9 @@ impl<'a> Parser<'a> {
         self.laws();
         let table = self.table(alloc, lattice)?;
         self.note_many(&table);
-        Ok(table.into_variables(alloc))
+        match table.into_variables(alloc) {
+            Ok(variables) => Ok(variables),
+            Err(_) => Err(ParseFault::Memory),
+        }
     }
 }

@@ -1,7 +1,8 @@
 //! The parser of a header: labels and the pairs that give their order.
 
-ghost use Rattle.std.specs.Prelude.{None, ◌≡◌, ◌≤◌, ◌<◌, ◌^◌, MatchResult, length, All};
+ghost use Rattle.std.specs.Prelude.{None, ◌≡◌, ◌≤◌, ◌<◌, ◌^◌, IfOk, IfErr, MatchResult, length, All};
 ghost use Rattle.label_lattice.specs.Order.{AllDiffer};
+ghost use Rattle.label_lattice.specs.Chains.{Chain, AreBelow, IsFault, IsBuilt};
 ghost use Rattle.mit_parser.specs.declared.fault.ParseFault.TheVariants.{Memory};
 ghost use Rattle.mit_parser.specs.Machine.{a_name, names, a_pair, pairs, ordering, header};
 ghost use Rattle.mit_parser.specs.Faults.{as_labels, AreNumbersBelow, header_labels, header_pairs};
@@ -39,6 +40,20 @@ fn as_labels(alloc: Global, numbers: &[(usize, usize)]) -> Result<Vec<(Label, La
         pairs.push((Label::new(low as u8), Label::new(high as u8)))?;
     }
     Ok(pairs)
+}
+
+/// The lattice of labels with these names, in which one flows to another where pairs lead there. It is large: what makes
+/// it stands on the stack only while it is made.
+#[inline(never)]
+fn lattice_of(names: &[Name], pairs: &[(Label, Label)]) -> Result<Lattice, LatticeFault>
+    requires some { 0 < length names.now }
+    requires many { length names.now ≤ 2 ^ 31 }
+    requires differ { AllDiffer names.now }
+    requires pairs { AreBelow (length names.now) pairs.now }
+    ensures built { IfOk result (IsBuilt names.now pairs.now) }
+    ensures fault { IfErr result (IsFault (length names.now) (Chain pairs.now)) }
+{
+    Lattice::build(names, pairs)
 }
 
 impl<'a> Parser<'a> {
@@ -166,7 +181,7 @@ impl<'a> Parser<'a> {
             });
         }
         let pairs = as_labels(alloc, numbers)?;
-        match Lattice::build(labels, &pairs) {
+        match lattice_of(labels, &pairs) {
             Ok(lattice) => Ok(Header {
                 lattice: Some(lattice),
                 pairs,

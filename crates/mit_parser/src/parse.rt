@@ -7,7 +7,6 @@ ghost use Rattle.mit_parser.specs.Spells.{IsProgram, Refuses};
 ghost use Rattle.mit_parser.specs.Assembly.{AreParts, IsAssembled};
 
 use crate::fault::ParseFault;
-use crate::header::Header;
 use crate::names::Names;
 use crate::parser::Parser;
 use label_lattice::label::Label;
@@ -30,12 +29,9 @@ fn assembled(
         unreachable!()
     };
     lattice.laws();
-    // What `len` says is needed: the declarations are few, and the names in a table differ.
-    let _ = names.variables.len();
-    let table = names.variables.into_table();
-    let _ = table.len();
+    names.variables.laws();
     let lattice = Box::new(alloc, lattice)?;
-    Ok(Program::of(lattice, pairs, table, body))
+    Ok(Program::of(lattice, pairs, names.variables, body))
 }
 
 /// The program that the tokens of a text of at most 2^31 - 1 bytes spell.
@@ -53,9 +49,15 @@ pub fn parse(alloc: Global, tokens: &[Token], text: &[u8]) -> Result<Program, Pa
     ensures { MatchResult result (IsProgram (told text.now tokens.now)) (Refuses (told text.now tokens.now)) }
 {
     let mut parser = Parser::new(text, tokens);
-    let Header { lattice, pairs } = parser.header(alloc)?;
-    let variables = parser.variables(alloc, &lattice)?;
-    let names = Names { lattice, variables };
+    let header = match parser.header(alloc) {
+        Ok(header) => header,
+        Err(fault) => return Err(fault),
+    };
+    let variables = parser.variables(alloc, &header.lattice)?;
+    let names = Names {
+        lattice: header.lattice,
+        variables,
+    };
     let body = parser.commands(alloc, &names)?;
     parser.laws();
     if !parser.is_at_end() {
@@ -63,7 +65,7 @@ pub fn parse(alloc: Global, tokens: &[Token], text: &[u8]) -> Result<Program, Pa
     }
     match parser.fault() {
         Some(fault) => Err(fault),
-        None => match assembled(alloc, pairs, names, body) {
+        None => match assembled(alloc, header.pairs, names, body) {
             Ok(program) => Ok(program),
             Err(_) => Err(ParseFault::Memory),
         },

@@ -1,8 +1,9 @@
 -- The numbers of variables.
 use Rattle.std.proofs.Common.{◌≡◌, refl, sym, ap, ◌∙◌, subst, ℕ, zero, suc, ◌+◌, ◌-◌, ◌<◌, ◌≤◌, List, [], ◌∷◌, length, get_or, Option, None, Some, arith}
-use Rattle.std.proofs.Common.{length-append, set, ⊎_elim}
+use Rattle.std.proofs.Common.{◌++◌, length-append, ⊎_elim}
 use Rattle.std.specs.Prelude.{slice_get}
-use Rattle.std.proofs.lemmas.List.{get_or_append_left, get_or-append-add, get_or-set_same, get_or-set_other}
+use Rattle.std.proofs.lemmas.Grind.{get_or_default_zero}
+use Rattle.std.proofs.lemmas.List.{get_or_append_left, get_or-append-add, get_or_push}
 use Rattle.std.proofs.lemmas.Bool.{cases_lt}
 use Rattle.std.proofs.lemmas.Option.{none-some, same_Some}
 use Rattle.label_lattice.specs.declared.label.Label.{Label}
@@ -89,26 +90,22 @@ cell_in (x ∷ ds) (suc k) i d c e h =
     ∙ get_or-append-add (cells_of x.0 x.1.label x.1.length) (cells ds) (first_of ds k + i) c
     ∙ cell_in ds k i d c e h
 
--- the table, once all declarations are passed
-pub table_full : (ds : List Declaration) (firsts : List ℕ) (k : ℕ) → k ≡ length ds → k < length firsts → ((j : ℕ) → j < k → get_or firsts j 0 ≡ first_of ds j)
-    → (j : ℕ) → j ≤ length ds → get_or (set firsts k (first_of ds k)) j 0 ≡ first_of ds j
-table_full ds firsts k e r h j l =
-    ⊎_elim
-    (λ (a : j < k). get_or-set_other firsts k j (first_of ds k) 0 (λ q. omega (arith, a, q)) ∙ h j a)
-    (λ (b : k ≤ j).
-    let q : j ≡ k = omega (arith, b, l, e) in
-    ap (λ i. get_or (set firsts k (first_of ds k)) i 0) q ∙ get_or-set_same firsts k (first_of ds k) 0 r ∙ ap (first_of ds) (sym q))
-    (cases_lt j k)
+-- what is read at a place of a list of numbers
+pub read_at : (xs : List ℕ) (k r : ℕ) → k < length xs → r ≡ get_or xs k r → r ≡ get_or xs k 0
+read_at xs k r l e = e ∙ get_or_default_zero xs k r l
 
-pub table_more : (ds : List Declaration) (firsts : List ℕ) (k : ℕ) → k < length firsts → ((j : ℕ) → j < k → get_or firsts j 0 ≡ first_of ds j)
-    → (j : ℕ) → j < k + 1 → get_or (set firsts k (first_of ds k)) j 0 ≡ first_of ds j
-table_more ds firsts k r h j l =
-    ⊎_elim
-    (λ (a : j < k). get_or-set_other firsts k j (first_of ds k) 0 (λ q. omega (arith, a, q)) ∙ h j a)
-    (λ (b : k ≤ j).
-    let q : j ≡ k = omega (arith, b, l) in
-    ap (λ i. get_or (set firsts k (first_of ds k)) i 0) q ∙ get_or-set_same firsts k (first_of ds k) 0 r ∙ ap (first_of ds) (sym q))
-    (cases_lt j k)
+-- the table, one number longer
+pub table_push : (ds : List Declaration) (old new : List ℕ) (k v : ℕ) → new ≡ old ++ v ∷ [] → length old ≡ k → v ≡ first_of ds k
+    → ((j : ℕ) → j < k → get_or old j 0 ≡ first_of ds j) → (length new ≡ k + 1) × ((j : ℕ) → j < k + 1 → get_or new j 0 ≡ first_of ds j)
+table_push ds old new k v e fit is before =
+    let len = length-append old (v ∷ []) in (
+      omega (arith, ap length e, len, fit),
+      λ j h. ap (λ z. get_or z j 0) e
+          ∙ ⊎_elim
+          (λ (i : j < k). get_or_append_left old (v ∷ []) 0 j (omega (arith, i, fit)) ∙ before j i)
+          (λ (i : k ≤ j). let same : k ≡ j = omega (arith, i, h) in get_or_push old v 0 j (fit ∙ same) ∙ is ∙ ap (first_of ds) same)
+          (cases_lt j k),
+    )
 
 pub some_declared : (ds : List Declaration) (x : ℕ) → x < variables ds → 0 < length ds
 some_declared [] x h = absurd (omega (arith, h))

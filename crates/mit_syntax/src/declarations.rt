@@ -1,11 +1,13 @@
 //! The declared variables: their names, labels, lengths and numbers.
 
-ghost use Rattle.std.specs.Prelude.{◌≡◌, ◌<◌, ◌≤◌, ◌+◌, length, slice_get, Some};
+ghost use Rattle.std.specs.Prelude.{◌≡◌, ◌<◌, ◌≤◌, ◌+◌, length, map, slice_get, Some, IfOk};
+ghost use Rattle.label_lattice.specs.Order.{AllDiffer};
 ghost use Rattle.mit_syntax.specs.Declarations.{cell_at, cell_of, variables, find_scalar, find_array, size_of, first_of, AreFew};
 
 use indexmap::IndexMap;
 use label_lattice::label::Label;
 use label_lattice::name::Name;
+use std::alloc::{AllocError, Global};
 use std::marker::Model;
 
 /// The most declarations that a program may have.
@@ -19,9 +21,6 @@ pub const MAX_CELLS: u32 = MAX_VARIABLES + MAX_ELEMENTS;
 
 /// The same as a length: for how many variables a list has room.
 pub const CELLS: usize = MAX_CELLS as usize;
-
-/// How many numbers are kept beside the declarations: one for each, and that of all variables.
-const FIRSTS: usize = MAX_VARIABLES as usize + 1;
 
 /// A declaration: the label where it is written, and the length of an array.
 #[derive(Clone, Copy, Debug, PartialEq, Eq)]
@@ -46,7 +45,7 @@ fn size_of(decl: Decl) -> u32
 pub struct Variables {
     table: IndexMap<Name, Decl>,
     /// The number of the first variable of each declaration, and then the number of all variables.
-    firsts: [u32; FIRSTS],
+    firsts: Vec<u32>,
 }
 
 impl Model for Variables {
@@ -74,25 +73,29 @@ fn entry(table: &IndexMap<Name, Decl>, k: usize) -> (Name, Decl)
 
 impl Variables {
     /// The variables of these declarations.
-    pub fn of(table: IndexMap<Name, Decl>) -> Variables
+    ///
+    /// # Errors
+    /// `AllocError` where memory runs out.
+    pub fn of(alloc: Global, table: IndexMap<Name, Decl>) -> Result<Variables, AllocError>
         requires { AreFew table.entries }
-        ensures { result ≡ table.entries }
+        ensures { IfOk result (λ v. v ≡ table.entries) }
     {
-        let mut firsts = [0; FIRSTS];
+        let mut firsts = Vec::with_capacity(alloc, table.len() + 1)?;
         let mut next = 0;
         for k in 0..table.len() {
-            firsts[k] = next;
+            firsts.push(next)?;
             next += size_of(entry(&table, k).1);
         }
-        firsts[table.len()] = next;
-        Variables { table, firsts }
+        firsts.push(next)?;
+        Ok(Variables { table, firsts })
     }
 
-    /// The declarations as a table, in their order.
-    pub fn into_table(self) -> IndexMap<Name, Decl>
-        ensures { result.entries ≡ self }
+    /// Says nothing at run time: what is true of all declarations of a program.
+    pub fn laws(&self)
+        ensures few { AreFew self.now }
+        ensures differ { AllDiffer (map (λ d. d.0) self.now) }
     {
-        self.table
+        let _ = self.table.len();
     }
 
     /// How many variables there are, each element of an array counted.

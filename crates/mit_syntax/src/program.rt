@@ -8,8 +8,7 @@ ghost use Rattle.mit_syntax.specs.Valid.{IsValid};
 
 use crate::ast::Command;
 use crate::count::{Counts, count_list};
-use crate::declarations::{Decl, Variables};
-use indexmap::IndexMap;
+use crate::declarations::Variables;
 use label_lattice::label::Label;
 use label_lattice::lattice::Lattice;
 use label_lattice::name::Name;
@@ -47,11 +46,11 @@ impl Program {
     pub fn of(
         lattice: Box<Lattice>,
         pairs: Vec<(Label, Label)>,
-        variables: IndexMap<Name, Decl>,
+        variables: Variables,
         body: Vec<Command>,
     ) -> Program
-        requires { IsValid (syntax lattice.value pairs.items variables.entries body.items) }
-        ensures { result ≡ syntax lattice.value pairs.items variables.entries body.items }
+        requires { IsValid (syntax lattice.value pairs.items variables body.items) }
+        ensures { result ≡ syntax lattice.value pairs.items variables body.items }
     {
         let Counts {
             commands,
@@ -60,7 +59,7 @@ impl Program {
         Program {
             lattice,
             pairs,
-            variables: Variables::of(variables),
+            variables,
             body,
             commands,
             mitigates,

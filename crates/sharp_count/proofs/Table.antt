@@ -1,8 +1,7 @@
 -- The table of the ways of one level.
 use Rattle.std.proofs.Common.{◌≡◌, ◌≢◌, ℕ, zero, suc, ◌+◌, ◌-◌, ◌/◌, ◌%◌, ◌^◌, ◌<◌, ◌≤◌, List, [], length, set, replicate, get_or, sym, ap, ◌∙◌, subst, arith}
-use Rattle.std.proofs.Common.{below_more, get_or-set_same, get_or-set_other}
-use Rattle.std.proofs.lemmas.List.{get_or-replicate}
-use Rattle.std.proofs.Math.ListN.{length-replicate}
+use Rattle.std.proofs.Common.{◌++◌, ◌∷◌, length-append, below_more, get_or-set_same, get_or-set_other}
+use Rattle.std.proofs.lemmas.List.{get_or-replicate, get_or_append_left, get_or_push}
 use Rattle.std.proofs.Math.Nat.{le-div_iff_mul-le, div-div-eq-div-mul, div-eq_of_lt, pow-suc, zero-div}
 use Rattle.std.proofs.lemmas.Nat.{pow_pos}
 use Rattle.leak_bound.specs.Digits.{digits}
@@ -50,17 +49,20 @@ next_row most i table row lt h r = record {
 }
 
 -- with nothing to spend there is the empty list alone
-pub start : (row : List ℕ) → IsRow 0 0 row → IsTable 0 (set (replicate 65 (replicate {A = ℕ} 65 0)) 0 row)
-start row r zero le spent fit =
-    let some : 0 < length (replicate 65 (replicate {A = ℕ} 65 0)) = omega (arith, length-replicate 65 (replicate {A = ℕ} 65 0)) in
-    ap (λ z. get_or z spent 0) (get_or-set_same (replicate 65 (replicate {A = ℕ} 65 0)) 0 row [] some) ∙ r spent fit
-start row r (suc k) le spent fit =
-    let ne : suc k ≢ 0 = omega arith in
-    let inner : suc k < 65 = omega arith in
-    let there : spent < 65 = omega arith in
-    let at : get_or (set (replicate 65 (replicate {A = ℕ} 65 0)) 0 row) (suc k) [] ≡ replicate {A = ℕ} 65 0 =
-    get_or-set_other (replicate 65 (replicate {A = ℕ} 65 0)) 0 (suc k) row [] ne ∙ get_or-replicate 65 (suc k) (replicate {A = ℕ} 65 0) [] inner in
-    ap (λ z. get_or z spent 0) at ∙ get_or-replicate 65 spent 0 0 there ∙ sym (nothing_left (suc k) spent (omega arith))
+pub zeros : (k : ℕ) → 0 < k → IsRow 0 k (replicate {A = ℕ} 65 0)
+zeros k some spent fit = let there : spent < 65 = omega arith in get_or-replicate 65 spent 0 0 there ∙ sym (nothing_left k spent some)
+
+-- a table with one row more
+pub push_row : (P : ℕ → List ℕ → Type 0) (old new : List (List ℕ)) (row : List ℕ) (k : ℕ) → new ≡ old ++ row ∷ [] → length old ≡ k → P k row
+    → ((j : ℕ) → j < k → P j (get_or old j [])) → (length new ≡ k + 1) × ((j : ℕ) → j < k + 1 → P j (get_or new j []))
+push_row P old new row k e fit is before =
+    let len = length-append old (row ∷ []) in (
+      omega (arith, ap length e, len, fit),
+      subst (λ z. (j : ℕ) → j < k + 1 → P j (get_or z j [])) (sym e)
+          (below_more (λ j. P j (get_or (old ++ row ∷ []) j [])) k
+          (λ j less. subst (P j) (sym (get_or_append_left old (row ∷ []) [] j (omega (arith, less, fit)))) (before j less))
+          (subst (P k) (sym (get_or_push old row [] k fit)) is)),
+    )
 
 pub none_at_end : (n : ℕ) → n / 2 ^ digits n ≡ 0
 none_at_end zero = zero-div (2 ^ digits 0)

@@ -1,6 +1,6 @@
 //! How many ways there are in which mitigations of one level end that share their time.
 
-ghost use Rattle.std.specs.Prelude.{ℕ, ◌≡◌, ◌-◌, ◌/◌, ◌<◌, ◌≤◌, List, length, Some, None, IfSome};
+ghost use Rattle.std.specs.Prelude.{ℕ, ◌≡◌, ◌-◌, ◌/◌, ◌<◌, ◌≤◌, List, length, Some, None, IfOk, IfSome};
 ghost use Rattle.leak_bound.specs.Digits.{digits};
 ghost use Rattle.sharp_count.specs.Count.{rising};
 ghost use Rattle.sharp_count.specs.Levels.{miss_counts};
@@ -8,6 +8,7 @@ ghost use Rattle.sharp_count.specs.Shares.{shares, IsRow, IsTable};
 ghost use Rattle.sharp_count.specs.Ways.{AreWays};
 
 use crate::count::miss_counts;
+use std::alloc::{AllocError, Global};
 
 /// The most mitigations for which `shared_count` tells the number.
 pub const MAX_SHARED: u64 = 64;
@@ -54,11 +55,26 @@ fn row_of(powers: usize, most: u64, halved: &Row, shorter: &Row) -> Row
     row
 }
 
+/// The table for a sum of nothing.
+fn table_of_none(alloc: Global) -> Result<Vec<Row>, AllocError>
+    ensures rows { IfOk result (λ v. length v.items ≡ 65) }
+    ensures table { IfOk result (λ v. IsTable 0 v.items) }
+{
+    let mut table = Vec::with_capacity(alloc, PLACES)?;
+    table.push(row_of_none(0))?;
+    for _powers in 1..PLACES {
+        table.push([0; PLACES])?;
+    }
+    Ok(table)
+}
+
 /// Makes the table for a sum from that for its half.
-fn double(table: &mut [Row; PLACES], most: u64)
+fn double(table: &mut [Row], most: u64)
     requires left { 0 < most }
+    requires rows { length table.old ≡ 65 }
     requires halved { IsTable (most / 2) table.old }
-    ensures { IsTable most table.new }
+    ensures rows { length table.new ≡ 65 }
+    ensures table { IsTable most table.new }
 {
     table[0] = row_of_none(most);
     for powers in 1..PLACES {
@@ -72,21 +88,28 @@ fn double(table: &mut [Row; PLACES], most: u64)
 ///
 /// There is no answer for more than `MAX_SHARED` mitigations. The time that it takes grows with the binary digits of T,
 /// and not with T.
-pub fn shared_count(mitigations: u64, first: u64, t: u64) -> Option<u128>
-    ensures exact { mitigations ≤ 64 → (all : List (List (List ℕ)))
-        → AreWays t (λ l. first) 1 (λ l. mitigations) all → result ≡ Some (length all) }
-    ensures left_out { 64 < mitigations → result ≡ None }
-    ensures few { IfSome result (λ n. n ≤ rising (miss_counts t first) mitigations) }
-    ensures one { mitigations ≡ 1 → result ≡ Some (miss_counts t first) }
+///
+/// # Errors
+/// `AllocError` where memory runs out.
+pub fn shared_count(
+    alloc: Global,
+    mitigations: u64,
+    first: u64,
+    t: u64,
+) -> Result<Option<u128>, AllocError>
+    ensures exact { IfOk result (λ r. mitigations ≤ 64 → (all : List (List (List ℕ)))
+        → AreWays t (λ l. first) 1 (λ l. mitigations) all → r ≡ Some (length all)) }
+    ensures left_out { IfOk result (λ r. 64 < mitigations → r ≡ None) }
+    ensures few { IfOk result (λ r. IfSome r (λ n. n ≤ rising (miss_counts t first) mitigations)) }
+    ensures one { IfOk result (λ r. mitigations ≡ 1 → r ≡ Some (miss_counts t first)) }
 {
     if mitigations > MAX_SHARED {
-        return None;
+        return Ok(None);
     }
     let most = t / first.max(1);
-    let mut table = [[0; PLACES]; PLACES];
-    table[0] = row_of_none(0);
+    let mut table = table_of_none(alloc)?;
     for place in (0..miss_counts(t, first)).rev() {
         double(&mut table, most >> place);
     }
-    Some(table[mitigations as usize][0])
+    Ok(Some(table[mitigations as usize][0]))
 }

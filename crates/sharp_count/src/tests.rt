@@ -104,9 +104,9 @@ static WAYS: [(u64, u64, u64, u128); 15] = [
 #[test]
 fn ways_of_one_level(rt: HostRuntime) {
     for &(mitigations, first, t, ways) in &WAYS {
-        assert!(rt; shared_count(mitigations, first, t) == Some(ways));
+        assert!(rt; shared_count(rt.alloc(), mitigations, first, t) == Ok(Some(ways)));
     }
-    assert!(rt; shared_count(MAX_SHARED + 1, 1, 65) == None);
+    assert!(rt; shared_count(rt.alloc(), MAX_SHARED + 1, 1, 65) == Ok(None));
     let many = LevelRuns {
         mitigations: 64,
         first: 1,
@@ -120,7 +120,7 @@ static SHARED: [(u64, u128, u128); 3] = [(1, 20, 11), (2, 209, 65), (3, 1519, 27
 #[test]
 fn ways_to_share_a_million_cycles(rt: HostRuntime) {
     for &(mitigations, from_one, from_512) in &SHARED {
-        assert!(rt; shared_count(mitigations, 1, 1_000_000) == Some(from_one));
-        assert!(rt; shared_count(mitigations, 512, 1_000_000) == Some(from_512));
+        assert!(rt; shared_count(rt.alloc(), mitigations, 1, 1_000_000) == Ok(Some(from_one)));
+        assert!(rt; shared_count(rt.alloc(), mitigations, 512, 1_000_000) == Ok(Some(from_512)));
     }
 }

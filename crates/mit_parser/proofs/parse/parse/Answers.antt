@@ -13,19 +13,18 @@ use Rattle.mit_parser.proofs.parse.parse.Goals as goal
 pub new-parser-requires : goal.new-parser-requires
 new-parser-requires c = are_sound c.args.text.now c.args.tokens.now c.requires.size c.requires.tokens
 
-pub returns-in_err-lattice : goal.returns-in_err-lattice
-returns-in_err-lattice c =
-    let p = err_from_is_err_and c.from_residual.result c.from_residual.ensures.1 in
+pub returns-in-Err : goal.returns-in-Err
+returns-in-Err c =
     let words = told c.args.text.now c.args.tokens.now in
-    rw (p.1, p.2) (refuses words (begin words) c.header.new.self header (declarations ∷ commands ∷ want the_end ∷ []) _ refl
-    (rw c.new-parser.ensures at c.in_err-lattice.ensures))
+    refuses words (begin words) c.header.new.self header (declarations ∷ commands ∷ want the_end ∷ []) _ refl
+    (rw c.new-parser.ensures at c.in-Err.ensures)
 
 pub returns-in_err-variables : goal.returns-in_err-variables
 returns-in_err-variables c =
-    let p = err_from_is_err_and c.from_residual-in_err-variables.result c.from_residual-in_err-variables.ensures.1 in
+    let p = err_from_is_err_and c.from_residual.result c.from_residual.ensures.1 in
     let words = told c.args.text.now c.args.tokens.now in
-    let h : IsHeader c.in_ok-lattice.field-0.lattice c.in_ok-lattice.field-0.pairs.items (begin words) c.header.new.self =
-    rw c.new-parser.ensures at c.in_ok-lattice.ensures in
+    let h : IsHeader c.in-Ok.header.lattice c.in-Ok.header.pairs.items (begin words) c.header.new.self =
+    rw c.new-parser.ensures at c.in-Ok.ensures in
     rw (p.1, p.2) (refuses words c.header.new.self c.variables.new.self declarations (commands ∷ want the_end ∷ []) _
     (h.goes (declarations ∷ commands ∷ want the_end ∷ [])) c.in_err-variables.ensures)
 
@@ -33,28 +32,28 @@ pub returns-in_err-body : goal.returns-in_err-body
 returns-in_err-body c =
     let p = err_from_is_err_and c.from_residual-in_err-body.result c.from_residual-in_err-body.ensures.1 in
     let words = told c.args.text.now c.args.tokens.now in
-    let h : IsHeader c.in_ok-lattice.field-0.lattice c.in_ok-lattice.field-0.pairs.items (begin words) c.header.new.self =
-    rw c.new-parser.ensures at c.in_ok-lattice.ensures in
+    let h : IsHeader c.in-Ok.header.lattice c.in-Ok.header.pairs.items (begin words) c.header.new.self =
+    rw c.new-parser.ensures at c.in-Ok.ensures in
     rw (p.1, p.2) (refuses words c.variables.new.self c.commands.new.self commands (want the_end ∷ []) _
-    (to_commands words c.in_ok-lattice.field-0.lattice c.in_ok-lattice.field-0.pairs.items c.in_ok-variables.variables c.header.new.self c.variables.new.self h
+    (to_commands words c.in-Ok.header.lattice c.in-Ok.header.pairs.items c.in_ok-variables.variables c.header.new.self c.variables.new.self h
     c.in_ok-variables.ensures) c.in_err-body.ensures)
 
 pub returns-then-not-is_at_end : goal.returns-then-not-is_at_end
 returns-then-not-is_at_end c =
     let words = told c.args.text.now c.args.tokens.now in
-    let h : IsHeader c.in_ok-lattice.field-0.lattice c.in_ok-lattice.field-0.pairs.items (begin words) c.header.new.self =
-    rw c.new-parser.ensures at c.in_ok-lattice.ensures in
+    let h : IsHeader c.in-Ok.header.lattice c.in-Ok.header.pairs.items (begin words) c.header.new.self =
+    rw c.new-parser.ensures at c.in-Ok.ensures in
     more_left words c.commands.new.self c.unexpected.result
-    (goes_end words c.in_ok-lattice.field-0.lattice c.in_ok-lattice.field-0.pairs.items c.in_ok-variables.variables c.in_ok-body.body.items c.header.new.self
+    (goes_end words c.in-Ok.header.lattice c.in-Ok.header.pairs.items c.in_ok-variables.variables c.in_ok-body.body.items c.header.new.self
     c.variables.new.self c.commands.new.self
     h c.in_ok-variables.ensures c.in_ok-body.ensures) c.if-not-is_at_end.ensures c.unexpected.ensures
 
 pub returns-in-Some : goal.returns-in-Some
 returns-in-Some c =
     let words = told c.args.text.now c.args.tokens.now in
-    let h : IsHeader c.in_ok-lattice.field-0.lattice c.in_ok-lattice.field-0.pairs.items (begin words) c.header.new.self =
-    rw c.new-parser.ensures at c.in_ok-lattice.ensures in
-    refuses_names words c.in_ok-lattice.field-0.lattice c.in_ok-lattice.field-0.pairs.items c.in_ok-variables.variables c.in_ok-body.body.items
+    let h : IsHeader c.in-Ok.header.lattice c.in-Ok.header.pairs.items (begin words) c.header.new.self =
+    rw c.new-parser.ensures at c.in-Ok.ensures in
+    refuses_names words c.in-Ok.header.lattice c.in-Ok.header.pairs.items c.in_ok-variables.variables c.in_ok-body.body.items
     c.header.new.self c.variables.new.self c.commands.new.self
     h c.in_ok-variables.ensures c.in_ok-body.ensures c.if-not-is_at_end.ensures c.laws.ensures.low c.in-Some.fault (sym c.fault.ensures ∙ c.in-Some.is)
 
@@ -65,18 +64,18 @@ assembled-requires c =
     let size = told_length c.args.text.now c.args.tokens.now in
     let few = sound.few in
     let short : length words ≤ 2 ^ 31 = omega (arith, size, few) in
-    let h : IsHeader c.in_ok-lattice.field-0.lattice c.in_ok-lattice.field-0.pairs.items (begin words) c.header.new.self =
-    rw c.new-parser.ensures at c.in_ok-lattice.ensures in
-    parts words c.in_ok-lattice.field-0.lattice c.in_ok-lattice.field-0.pairs.items c.in_ok-variables.variables c.in_ok-body.body.items c.header.new.self
+    let h : IsHeader c.in-Ok.header.lattice c.in-Ok.header.pairs.items (begin words) c.header.new.self =
+    rw c.new-parser.ensures at c.in-Ok.ensures in
+    parts words c.in-Ok.header.lattice c.in-Ok.header.pairs.items c.in_ok-variables.variables c.in_ok-body.body.items c.header.new.self
     c.variables.new.self c.commands.new.self
     h c.in_ok-variables.ensures c.in_ok-body.ensures c.if-not-is_at_end.ensures c.laws.ensures.low (sym c.fault.ensures ∙ c.in-None.is) sound.proper short
 
-pub returns-in-Ok : goal.returns-in-Ok
-returns-in-Ok c =
+pub returns-in-Ok-assembled : goal.returns-in-Ok-assembled
+returns-in-Ok-assembled c =
     let words = told c.args.text.now c.args.tokens.now in
-    let h : IsHeader c.in_ok-lattice.field-0.lattice c.in_ok-lattice.field-0.pairs.items (begin words) c.header.new.self =
-    rw c.new-parser.ensures at c.in_ok-lattice.ensures in
-    program words c.in_ok-lattice.field-0.lattice c.in_ok-lattice.field-0.pairs.items c.in_ok-variables.variables c.in_ok-body.body.items c.header.new.self
+    let h : IsHeader c.in-Ok.header.lattice c.in-Ok.header.pairs.items (begin words) c.header.new.self =
+    rw c.new-parser.ensures at c.in-Ok.ensures in
+    program words c.in-Ok.header.lattice c.in-Ok.header.pairs.items c.in_ok-variables.variables c.in_ok-body.body.items c.header.new.self
     c.variables.new.self c.commands.new.self
     h c.in_ok-variables.ensures c.in_ok-body.ensures c.if-not-is_at_end.ensures c.laws.ensures.low (sym c.fault.ensures ∙ c.in-None.is)
-    c.in-Ok.program c.in-Ok.ensures
+    c.in-Ok-assembled.program c.in-Ok-assembled.ensures

@@ -24,5 +24,5 @@ loop-powers-preserved c = (
   next_row c.args.most c.loop-powers.powers c.loop-powers.table c.row_of.result (omega arith) c.loop-powers.invariant.1 c.row_of.ensures,
 )
 
-pub returns : goal.returns
-returns c = λ k le. c.loop-powers.invariant.1.made k (omega arith)
+pub returns-clause-table : goal.returns-clause-table
+returns-clause-table c = λ k le. c.loop-powers.invariant.1.made k (omega arith)

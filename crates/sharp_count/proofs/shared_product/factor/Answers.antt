@@ -31,7 +31,7 @@ returns c =
     let small : t / max e 1 ≤ t = div-le_self t (max e 1) in
     let below : t < 2 ^ 64 = c.ranges.t.fits in
     let digits : miss_counts t e ≤ 64 = digits_few (t / max e 1) 64 (omega (arith, small, below)) in
-    c.shared_count.ensures.exact few all are
+    c.in_ok-count.ensures.exact few all are
     ∙ ap (λ z. Some z) (sym (ways_of_level t e k all are))
     ∙ sym (fits (shares (miss_counts t e) k (t / max e 1) 0) (shares_fit (miss_counts t e) k (t / max e 1) 0 digits few))
     ∙ ap (λ b. fitting (cond b (shares (miss_counts t e) k (t / max e 1) 0) (rising (miss_counts t e) k))) (sym (le-leb k 64 few))

@@ -10,4 +10,4 @@ one_level t firsts counts l r e = let next : suc l ≡ l + 1 = omega arith in su
 
 pub loop-level-preserved : goal.loop-level-preserved
 loop-level-preserved c =
-    one_level c.args.t _ _ c.loop-level.level-index c.product-count.result (c.product-count.ensures _ _ c.factor.ensures c.loop-level.invariant)
+    one_level c.args.t _ _ c.loop-level.level-index c.product-count.result (c.product-count.ensures _ _ c.in_ok-lists.ensures c.loop-level.invariant)

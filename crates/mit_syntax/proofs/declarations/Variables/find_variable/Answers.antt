@@ -1,5 +1,6 @@
 use Rattle.std.proofs.Common.{◌∙◌, sym, ap, Some, List, arith}
 use Rattle.mit_syntax.specs.Declarations.{Declaration, find_scalar}
+use Rattle.mit_syntax.proofs.Numbers.{read_at}
 use Rattle.mit_syntax.proofs.Named.{same_name, declared_at, declared_none, scalar_none, scalar_found, scalar_not}
 use Rattle.mit_syntax.proofs.declarations.Variables.find_variable.Goals as goal
 
@@ -16,7 +17,8 @@ returns-in-None c =
     let w = c.args.name.now in
     let e = declared_at _ w (same_name w) ds c.in_ok-k.k c.entry.result c.in_ok-k.ensures.index c.entry.ensures in
     let b = c.in_ok-k.ensures.within in
-    ap Some (c.self.invariant.firsts c.in_ok-k.k (omega (arith, b))) ∙ sym (scalar_found ds w _ c.entry.result.1 e c.in-None.is)
+    ap Some (read_at c.self.inside.firsts.items c.in_ok-k.k c.index.result.now (omega (arith, b, c.self.invariant.all)) c.index.ensures
+    ∙ c.self.invariant.firsts c.in_ok-k.k (omega (arith, b))) ∙ sym (scalar_found ds w _ c.entry.result.1 e c.in-None.is)
     ∙ ap (λ (l : List Declaration). find_scalar l w) c.self.view_is
 
 pub returns-in-Some : goal.returns-in-Some

@@ -4,7 +4,7 @@ use Rattle.mit_syntax.proofs.declarations.Variables.of.Given as goal
 
 abbrev pub invariant-loop-k : goal.invariant-loop-k
 invariant-loop-k l = record {
-  next : l.next ≡ first_of l.table.entries l.k;
-  room : length l.firsts ≡ 1025;
-  firsts : (j : ℕ) → j < l.k → get_or l.firsts j 0 ≡ first_of l.table.entries j;
+  next : l.next ≡ first_of l.fn.table.entries l.k;
+  all : length l.firsts.items ≡ l.k;
+  firsts : (j : ℕ) → j < l.k → get_or l.firsts.items j 0 ≡ first_of l.fn.table.entries j;
 }
