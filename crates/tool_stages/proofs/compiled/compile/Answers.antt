@@ -25,7 +25,8 @@ never_read p w t h = elim h [
 pub returns-in-Err-clause-log : goal.returns-in-Err-clause-log
 returns-in-Err-clause-log g c =
     let w = option_map (λ s. s.now) c.args.name in
-    fetch_stops _ (Unit {0}) (c.args.file.now ∷ []) (g.S.Shelf.log c.args.shelf.now) (g.S.Shelf.log c.read_program.new.shelf) c.in_ok-program.program c.in-Err.stop
+    fetch_stops _ (Unit {0}) (c.args.file.now ∷ []) (g.S.Shelf.log c.args.shelf.now) (g.S.Shelf.log c.read_program.new.shelf)
+    c.in_ok-program.program c.in-Err.stop
     (not_read (ProgramCompileStops c.in_ok-program.program w) (never_read c.in_ok-program.program w) c.in-Err.stop c.in-Err.ensures.stop)
     c.in_ok-program.ensures.log
 
