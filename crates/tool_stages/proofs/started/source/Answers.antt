@@ -1,4 +1,4 @@
-use Rattle.std.proofs.Common.{refl}
+use Rattle.std.proofs.Common.{refl, ◌∙◌}
 use Rattle.std.specs.Prelude.{option_map}
 use Rattle.start_file.specs.Starts.{seen}
 use Rattle.tool_stages.proofs.GoesLemmas.{first_at}
@@ -37,3 +37,6 @@ returns-in-Err-first_start-clause-stop g c =
     (g.S.Shelf.content c.read_program.new.shelf) (g.S.Shelf.content c.args.shelf.now) c.args.file.now (option_map (λ s. s.now) c.args.starts)
     c.in-Ok.program c.in-Err-first_start.stop
     (λ name. rose_since _ _ _ (c.read_program.ensures.later name)) c.read_program.ensures.same c.in-Ok.ensures.ok c.in-Err-first_start.ensures.stop
+
+pub returns-in-Ok-first_start-clause-same : goal.returns-in-Ok-first_start-clause-same
+returns-in-Ok-first_start-clause-same g c = λ name. c.first_start.ensures.same name ∙ c.read_program.ensures.same name
