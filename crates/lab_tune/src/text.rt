@@ -62,8 +62,8 @@ fn prepared_text<W: Watch>(
 ) -> Result<Vec<u8>, Stop>
     requires fit { CanAudit p.now.compiled.typed.labelled p.now.observer p.now.compiled.image (map seen p.now.starts.items) }
     requires cycles { IsCycles setting.budget }
-    ensures text { IfOk result (λ v. HasTune setting.env setting.budget mark bits p.now.compiled.typed.labelled (Some p.now.observer) (map seen p.now.starts.items)
-        status.Done v.items) }
+    ensures text { IfOk result (λ v. HasTune setting.env setting.budget mark bits p.now.compiled.typed.labelled (Some p.now.observer)
+        (map seen p.now.starts.items) status.Done v.items) }
     ensures stop { IfErr result (IsStop (HasTune setting.env setting.budget mark bits p.now.compiled.typed.labelled (Some p.now.observer)
         (map seen p.now.starts.items))) }
 {
