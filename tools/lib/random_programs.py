@@ -89,8 +89,9 @@ class Maker:
             yield "lab", ["steady", "p", "--observer", self.label(), *parts, *self.dice.choice([["--whole"], []])]
 
     def mark(self):
-        """Which mitigate `tune` is asked about."""
-        return self.dice.choice([[], ["--of", "#0"], ["--of", "#1"], ["--of", "#2"]])
+        """Which mitigate `tune` is asked about, and how many bits it may tell."""
+        of = self.dice.choice([[], ["--of", "#0"], ["--of", "#1"], ["--of", "#2"]])
+        return [*of, *self.dice.choice([[], [], ["--bits", "0"], ["--bits", "1"], ["--bits", "2"]])]
 
     def calls(self):
         """Each call's program with its words."""

@@ -12,7 +12,7 @@ lab_usage_text =
     ++ (codes "       lab bound FILE STARTS --observer L [--env flat|part|part2] [--machine M] [--budget T]\n"
     ++ (codes "       lab steady FILE --observer L [--parts P] [--constant NAMES] [--whole]\n"
     ++ (codes "       lab leak FILE STARTS --observer L [--env flat|part|part2] [--machine M] [--budget T]\n"
-    ++ (codes "       lab tune FILE STARTS --observer L [--env flat|part|part2] [--machine M] [--budget T] [--of #K]\n"
+    ++ (codes "       lab tune FILE STARTS --observer L [--env flat|part|part2] [--machine M] [--budget T] [--of #K] [--bits B]\n"
     ++ (codes "       lab check FILE --json\n"
     ++ (codes "       lab help [COMMAND]\n"
     ++ codes "       lab version\n"))))))))

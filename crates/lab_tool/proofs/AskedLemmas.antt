@@ -16,7 +16,7 @@ nothing_before_in e content (timeline file starts observer machine budget refuse
 nothing_before_in e content (bound file starts observer machine budget) = refl
 nothing_before_in e content (steady file observer parts constant whole) = refl
 nothing_before_in e content (leak file starts observer machine budget) = refl
-nothing_before_in e content (tune file starts observer machine budget mark) = refl
+nothing_before_in e content (tune file starts observer machine budget mark bits) = refl
 nothing_before_in e content (check file) = refl
 nothing_before_in e content (help command) = refl
 nothing_before_in e content version = refl

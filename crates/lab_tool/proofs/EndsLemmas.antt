@@ -107,11 +107,11 @@ completes_in env old new Rises content (leak file starts observer machine budget
     let m = second_file Rises content file starts [] none known in
     done_if (CanLeak content file starts observer env budget) r e can (λ goes.
     leak_completes old new Rises content file starts observer env budget r Rose ends write goes k.0 m.0 n)
-completes_in env old new Rises content (tune file starts observer machine budget mark) r Rose ends write e known can none n =
+completes_in env old new Rises content (tune file starts observer machine budget mark bits) r Rose ends write e known can none n =
     let k = first_file Rises content file (starts ∷ []) none known in
     let m = second_file Rises content file starts [] none known in
-    done_if (CanTune content file starts observer env budget mark) r e can (λ goes.
-    tune_completes old new Rises content file starts observer env budget mark r Rose ends write goes k.0 m.0 n)
+    done_if (CanTune content file starts observer env budget mark bits) r e can (λ goes.
+    tune_completes old new Rises content file starts observer env budget mark bits r Rose ends write goes k.0 m.0 n)
 completes_in env old new Rises content (check file) r Rose ends write e known can none n =
     let k = first_file Rises content file [] none known in
     ends_as old new (BeforeIn env content (check file)) (IsAnswerIn env Rises content (check file)) r e ends (λ f. n (write f))

@@ -116,8 +116,8 @@ module _ (Rises Rises' : List ℕ → Type 0) (content : Content) (rise : (name 
   answer_rises e (steady file observer parts constant whole) s t (m, inr (costing, of, inr h), is) = (m, inr (costing, of, inr h), is)
   answer_rises e (leak file starts observer machine budget) s t h =
       (h.0, leaks_rise e budget file starts observer s h.0 h.1, h.2)
-  answer_rises e (tune file starts observer machine budget mark) s t h =
-      (h.0, prepares_rise file starts observer (λ p q o code ss. HasTune e budget mark q o ss) s h.0 h.1, h.2)
+  answer_rises e (tune file starts observer machine budget mark bits) s t h =
+      (h.0, prepares_rise file starts observer (λ p q o code ss. HasTune e budget mark bits q o ss) s h.0 h.1, h.2)
   answer_rises e (check file) s t (inl h) = inl (check_rise (Rises file) (Rises' file) (content file) s t (rise file) h)
   answer_rises e (check file) s t (inr h) = inr h
   answer_rises e (help command) s t h = h

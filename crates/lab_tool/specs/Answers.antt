@@ -39,7 +39,7 @@ IsAnswerIn e Rises content (timeline file starts observer machine budget refused
 IsAnswerIn e Rises content (bound file starts observer machine budget) = IsBoundAnswer Rises content file starts observer e budget
 IsAnswerIn e Rises content (steady file observer parts constant whole) = IsSteadyAnswer constant Rises content file observer parts whole
 IsAnswerIn e Rises content (leak file starts observer machine budget) = IsLeakAnswer Rises content file starts observer e budget
-IsAnswerIn e Rises content (tune file starts observer machine budget mark) = IsTuneAnswer Rises content file starts observer e budget mark
+IsAnswerIn e Rises content (tune file starts observer machine budget mark bits) = IsTuneAnswer Rises content file starts observer e budget mark bits
 IsAnswerIn e Rises content (check file) = IsCheckAnswer Rises content file
 IsAnswerIn e Rises content (help command) = IsDoneWith (help_text command)
 IsAnswerIn e Rises content version = IsDoneWith version_text

@@ -119,9 +119,12 @@ fn obey_in<S: Shelf, W: Sink>(
             machine: _,
             budget,
             mark,
+            bits,
         } => {
             let setting = Setting { env, budget };
-            tune(alloc, shelf, out, file, starts, observer, setting, mark)
+            tune(
+                alloc, shelf, out, file, starts, observer, setting, mark, bits,
+            )
         }
         Question::Check { file } => check(alloc, shelf, out, file),
         Question::Help { command } => finish(out, help_text(command), Status::Done),

@@ -85,7 +85,7 @@ leak_help =
 
 unfoldable pub tune_help : Text
 tune_help =
-    codes "usage: lab tune FILE STARTS --observer L [--env flat|part|part2] [--machine M] [--budget T] [--of #K]\n"
+    codes "usage: lab tune FILE STARTS --observer L [--env flat|part|part2] [--machine M] [--budget T] [--of #K] [--bits B]\n"
     ++ (codes "which first predictions are best\n"
     ++ (codes "  FILE        program\n"
     ++ (codes "  STARTS      starts\n"
@@ -93,7 +93,8 @@ tune_help =
     ++ (codes "  --env       environment: where costs come from; part where it is left out\n"
     ++ (codes "  --machine   machine file: a machine in place of an environment\n"
     ++ (codes "  --budget    cycles: the last cycle; 1000000 where it is left out\n"
-    ++ codes "  --of        mark: of one mitigate; #0 where it is left out\n")))))))
+    ++ (codes "  --of        mark: of one mitigate; #0 where it is left out\n"
+    ++ codes "  --bits      bits: the cheapest one that tells no more\n"))))))))
 
 unfoldable pub check_help : Text
 check_help =

@@ -17,7 +17,7 @@ pub data MachineAsked : Type 0 where
   described : Text → MachineAsked
 
 -- A question with the bytes of its texts, in the order of `Question`: file, starts, observer, machine and budget;
--- of `seen` and `timeline` also whether refused programs run, of `tune` the mark of a mitigate;
+-- of `seen` and `timeline` also whether refused programs run, of `tune` the mark of a mitigate and the greatest number of bits, if there is one;
 -- of `steady` file, observer, parts, names of operators, and whether the whole run is asked about;
 -- of `help` the command, if there is one.
 pub data Asked : Type 0 where
@@ -28,7 +28,7 @@ pub data Asked : Type 0 where
   bound : Text → Text → Text → MachineAsked → ℕ → Asked
   steady : Text → Text → Option Text → Option Text → Bool → Asked
   leak : Text → Text → Text → MachineAsked → ℕ → Asked
-  tune : Text → Text → Text → MachineAsked → ℕ → ℕ → Asked
+  tune : Text → Text → Text → MachineAsked → ℕ → ℕ → Option ℕ → Asked
   check : Text → Asked
   help : Option Verb → Asked
   version : Asked
@@ -98,10 +98,19 @@ mark_named (Some word) = option_and_then (number_in 0 4294967295) (strip_byte 35
 abbrev pub mark_given : List Row → Option ℕ
 mark_given rows = mark_named (first_of (codes "mark") rows)
 
--- of the best first predictions: file, starts, observer, machine, budget and mark
-abbrev pub tune_asked : Option Text → Option Text → Option Text → Option MachineAsked → Option ℕ → Option ℕ → Option Asked
-tune_asked (Some file) (Some starts) (Some observer) (Some machine) (Some budget) (Some mark) = Some (tune file starts observer machine budget mark)
-tune_asked _ _ _ _ _ _ = None
+-- how many bits first predictions may tell, from 0 to 64; where none is written any number
+abbrev pub bits_named : Option Text → Option (Option ℕ)
+bits_named None = Some None
+bits_named (Some word) = option_map (λ n. Some n) (number_in 0 64 word)
+
+abbrev pub bits_given : List Row → Option (Option ℕ)
+bits_given rows = bits_named (first_of (codes "bits") rows)
+
+-- of the best first predictions: file, starts, observer, machine, budget, mark and bits
+abbrev pub tune_asked : Option Text → Option Text → Option Text → Option MachineAsked → Option ℕ → Option ℕ → Option (Option ℕ) → Option Asked
+tune_asked (Some file) (Some starts) (Some observer) (Some machine) (Some budget) (Some mark) (Some bits) =
+    Some (tune file starts observer machine budget mark bits)
+tune_asked _ _ _ _ _ _ _ = None
 
 -- `--json` must be there
 abbrev pub check_asked : Option Text → Bool → Option Asked
@@ -125,7 +134,7 @@ given Steady rows = steady_asked (first_of (codes "FILE") rows) (first_of (codes
     (first_of (codes "constant") rows) (flag_given (codes "whole") rows)
 given Leak rows = runs_given leak rows
 given Tune rows = tune_asked (first_of (codes "FILE") rows) (first_of (codes "STARTS") rows) (first_of (codes "observer") rows) (machine_given rows)
-    (budget_given rows) (mark_given rows)
+    (budget_given rows) (mark_given rows) (bits_given rows)
 given Check rows = check_asked (first_of (codes "FILE") rows) (flag_given (codes "json") rows)
 given Help rows = help_asked (first_of (codes "COMMAND") rows)
 given Version rows = Some version
@@ -153,7 +162,7 @@ IsInRange (timeline file starts observer machine budget refused) = IsCycles budg
 IsInRange (bound file starts observer machine budget) = IsCycles budget
 IsInRange (steady file observer parts constant whole) = ⊤
 IsInRange (leak file starts observer machine budget) = IsCycles budget
-IsInRange (tune file starts observer machine budget mark) = IsCycles budget
+IsInRange (tune file starts observer machine budget mark bits) = IsCycles budget
 IsInRange (check file) = ⊤
 IsInRange (help command) = ⊤
 IsInRange version = ⊤

@@ -39,9 +39,9 @@ steady_app = with_rule (with_rule (with_rule (with_rule (with_rule (bare (new_ap
 abbrev pub mark_rule : Rule
 mark_rule = record (new_rule (codes "mark")) { long = Some (codes "of") }
 
--- what is observed of runs and [--of #K]
+-- what is observed of runs, [--of #K] and [--bits B]
 abbrev pub tune_app : App
-tune_app = with_rule (runs_app (codes "tune")) mark_rule
+tune_app = with_rule (with_rule (runs_app (codes "tune")) mark_rule) (option_rule (codes "bits"))
 
 -- FILE --json
 abbrev pub check_app : App

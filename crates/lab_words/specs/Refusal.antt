@@ -10,7 +10,7 @@ use Rattle.clap.specs.Words.{App, Row, Rule, Text, fault_of, first_of, matches_o
 use Rattle.tool_words.specs.WordsValues.{budget_given}
 use Rattle.lab_words.specs.declared.verbs.Verb.{Verb}
 use Rattle.lab_words.specs.declared.verbs.Verb.TheVariants.{Why, Seen, Timeline, Bound, Steady, Leak, Tune, Check, Help, Version}
-use Rattle.lab_words.specs.QuestionAsked.{help_asked, machine_given, mark_given, verb_named}
+use Rattle.lab_words.specs.QuestionAsked.{bits_given, help_asked, machine_given, mark_given, verb_named}
 use Rattle.lab_words.specs.QuestionForms.{form_app}
 
 -- ---- the first word that can't be taken
@@ -33,8 +33,8 @@ is_of_alone rows = lacks (codes "of") rows || lacks (codes "STARTS") rows
 -- the values that words give are of their form
 abbrev pub has_values : List Row → Bool
 has_values rows =
-    is_some (machine_given rows) && (is_some (budget_given rows) && (is_some (mark_given rows)
-    && (is_some (help_asked (first_of (codes "COMMAND") rows)) && is_of_alone rows)))
+    is_some (machine_given rows) && (is_some (budget_given rows) && (is_some (mark_given rows) && (is_some (bits_given rows)
+    && (is_some (help_asked (first_of (codes "COMMAND") rows)) && is_of_alone rows))))
 
 -- the words after a command word can be taken, if some more follow
 abbrev pub is_taken : Verb → List Text → Bool
@@ -95,7 +95,7 @@ form_told Timeline = codes "timeline FILE STARTS [--env flat|part|part2] [--mach
 form_told Bound = codes "bound FILE STARTS --observer LABEL [--env flat|part|part2] [--machine M] [--budget 1..1099511627776]\n"
 form_told Steady = codes "steady FILE --observer LABEL [--parts LABEL] [--constant NAMES] [--whole]\n"
 form_told Leak = codes "leak FILE STARTS --observer LABEL [--env flat|part|part2] [--machine M] [--budget 1..1099511627776]\n"
-form_told Tune = codes "tune FILE STARTS --observer LABEL [--env flat|part|part2] [--machine M] [--budget 1..1099511627776] [--of #K]\n"
+form_told Tune = codes "tune FILE STARTS --observer LABEL [--env flat|part|part2] [--machine M] [--budget 1..1099511627776] [--of #K] [--bits 0..64]\n"
 form_told Check = codes "check FILE --json\n"
 form_told Help = codes "help [why|seen|timeline|bound|steady|leak|tune|check|help|version]\n"
 form_told Version = codes "version\n"

@@ -76,11 +76,13 @@ pub(crate) fn mark<'a>(alloc: Global) -> Arg<'a>
     Arg::new(alloc, "mark").long("of")
 }
 
-/// `tune FILE STARTS --observer L [--env E] [--machine M] [--budget T] [--of #K]`.
+/// `tune FILE STARTS --observer L [--env E] [--machine M] [--budget T] [--of #K] [--bits B]`.
 fn tune_form<'a>(alloc: Global) -> Result<Form<'a>, AllocError>
     ensures { IfOk result (λ f. app_of f ≡ tune_app) }
 {
-    runs_form(alloc, "tune")?.arg(mark(alloc))
+    runs_form(alloc, "tune")?
+        .arg(mark(alloc))?
+        .arg(option(alloc, "bits"))
 }
 
 /// `check FILE --json`.

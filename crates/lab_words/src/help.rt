@@ -115,7 +115,7 @@ what these runs tell, exactly
 fn tune_help() -> &'static [u8]
     ensures { result.now ≡ tune_help }
 {
-    b"usage: lab tune FILE STARTS --observer L [--env flat|part|part2] [--machine M] [--budget T] [--of #K]
+    b"usage: lab tune FILE STARTS --observer L [--env flat|part|part2] [--machine M] [--budget T] [--of #K] [--bits B]
 which first predictions are best
   FILE        program
   STARTS      starts
@@ -124,6 +124,7 @@ which first predictions are best
   --machine   machine file: a machine in place of an environment
   --budget    cycles: the last cycle; 1000000 where it is left out
   --of        mark: of one mitigate; #0 where it is left out
+  --bits      bits: the cheapest one that tells no more
 "
 }
 

@@ -106,7 +106,7 @@ fn form_told(verb: Verb) -> &'static [u8]
         Verb::Leak =>
             b"leak FILE STARTS --observer LABEL [--env flat|part|part2] [--machine M] [--budget 1..1099511627776]\n",
         Verb::Tune =>
-            b"tune FILE STARTS --observer LABEL [--env flat|part|part2] [--machine M] [--budget 1..1099511627776] [--of #K]\n",
+            b"tune FILE STARTS --observer LABEL [--env flat|part|part2] [--machine M] [--budget 1..1099511627776] [--of #K] [--bits 0..64]\n",
         Verb::Check => b"check FILE --json\n",
         Verb::Help => b"help [why|seen|timeline|bound|steady|leak|tune|check|help|version]\n",
         Verb::Version => b"version\n",

@@ -74,11 +74,13 @@ fn steady_form<'a>(alloc: Global) -> Result<Form<'a>, AllocError>
         .arg(flag(alloc, "whole"))
 }
 
-/// `tune [FILE] [STARTS] [--observer L] [--env E] [--machine M] [--budget T] [--of #K]`.
+/// `tune [FILE] [STARTS] [--observer L] [--env E] [--machine M] [--budget T] [--of #K] [--bits B]`.
 fn tune_form<'a>(alloc: Global) -> Result<Form<'a>, AllocError>
     ensures { IfOk result (λ f. app_of f ≡ loosened tune_app) }
 {
-    runs_form(alloc, "tune")?.arg(mark(alloc))
+    runs_form(alloc, "tune")?
+        .arg(mark(alloc))?
+        .arg(option(alloc, "bits"))
 }
 
 /// `check [FILE] [--json]`.

@@ -68,7 +68,8 @@ pub enum Question<'a> {
         machine: Machine<'a>,
         budget: u64,
     },
-    /// `tune FILE STARTS --observer L [--env E | --machine M] [--budget T] [--of #K]`, `budget` from 1 to `MAX_CYCLES`
+    /// `tune FILE STARTS --observer L [--env E | --machine M] [--budget T] [--of #K] [--bits B]`, `budget` from 1 to
+    /// `MAX_CYCLES`, `bits` from 0 to 64
     Tune {
         file: &'a str,
         starts: &'a str,
@@ -76,6 +77,7 @@ pub enum Question<'a> {
         machine: Machine<'a>,
         budget: u64,
         mark: u32,
+        bits: Option<u32>,
     },
     /// `check FILE --json`
     Check {

@@ -3,7 +3,7 @@
 ghost use Rattle.std.specs.Prelude.{◌≡◌, IfSome, option_map};
 ghost use Rattle.clap.specs.Lexer.{strip_byte};
 ghost use Rattle.clap.specs.Words.{found_of, rows_of};
-ghost use Rattle.lab_words.specs.QuestionAsked.{IsInRange, flag_given, given, machine_given, mark_given, mark_named};
+ghost use Rattle.lab_words.specs.QuestionAsked.{IsInRange, bits_given, bits_named, flag_given, given, machine_given, mark_given, mark_named};
 ghost use Rattle.lab_words.specs.QuestionViews.{asked_of, machine_of};
 
 use crate::machine::Machine;
@@ -15,6 +15,9 @@ use tool_words::values::number_of;
 
 /// The greatest number that the mark of a mitigate may have.
 const MAX_MARK: u64 = u32::MAX as u64;
+
+/// The greatest number of bits.
+const MAX_BITS: u64 = 64;
 
 fn why<'a>(matches: &ArgMatches<'a>) -> Option<Question<'a>>
     ensures asked { option_map asked_of result ≡ given Verb.Why (rows_of (found_of matches.now)) }
@@ -176,6 +179,24 @@ pub(crate) fn mark(matches: &ArgMatches<'_>) -> Option<u32>
     mark_of(text(matches, "mark"))
 }
 
+// The bits that a word names, where there is one; none where the word names none.
+fn bits_of(word: Option<&str>) -> Option<Option<u32>>
+    ensures { result ≡ bits_named (option_map (λ w. w.now) word.entry) }
+{
+    let Some(word) = word else {
+        return Some(None);
+    };
+    let bits = number_of(word, 0, MAX_BITS)?;
+    Some(Some(bits as u32))
+}
+
+/// The bits that the words name, if they name any; none where what they name is none.
+pub(crate) fn bits(matches: &ArgMatches<'_>) -> Option<Option<u32>>
+    ensures { result ≡ bits_given (rows_of (found_of matches.now)) }
+{
+    bits_of(text(matches, "bits"))
+}
+
 fn tune<'a>(matches: &ArgMatches<'a>) -> Option<Question<'a>>
     ensures asked { option_map asked_of result ≡ given Verb.Tune (rows_of (found_of matches.now)) }
     ensures range { IfSome result (λ q. IsInRange (asked_of q)) }
@@ -186,6 +207,7 @@ fn tune<'a>(matches: &ArgMatches<'a>) -> Option<Question<'a>>
     let machine = machine(matches)?;
     let budget = budget(matches)?;
     let mark = mark(matches)?;
+    let bits = bits(matches)?;
     Some(Question::Tune {
         file,
         starts,
@@ -193,6 +215,7 @@ fn tune<'a>(matches: &ArgMatches<'a>) -> Option<Question<'a>>
         machine,
         budget,
         mark,
+        bits,
     })
 }
 

@@ -8,7 +8,7 @@ ghost use Rattle.lab_words.specs.Refusal.{IsFirst, IsLine, IsLineAfter, has_valu
 
 use crate::lines::{lacks, missing_line, no_command, unknown_line, wrong_line};
 use crate::loose::loose_form;
-use crate::readers::{machine, mark};
+use crate::readers::{bits, machine, mark};
 use crate::verbs::{Verb, verb_of};
 use clap::ArgMatches;
 use std::alloc::Global;
@@ -41,6 +41,7 @@ fn has_values(matches: &ArgMatches<'_>) -> bool
     machine(matches).is_some()
         && budget(matches).is_some()
         && mark(matches).is_some()
+        && bits(matches).is_some()
         && has_command(matches)
         && is_of_alone(matches)
 }

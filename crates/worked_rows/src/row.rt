@@ -29,7 +29,7 @@ const LAB_USAGE: &[u8] = b"usage: lab why FILE [STARTS] [--of NAME]
        lab bound FILE STARTS --observer L [--env flat|part|part2] [--machine M] [--budget T]
        lab steady FILE --observer L [--parts P] [--constant NAMES] [--whole]
        lab leak FILE STARTS --observer L [--env flat|part|part2] [--machine M] [--budget T]
-       lab tune FILE STARTS --observer L [--env flat|part|part2] [--machine M] [--budget T] [--of #K]
+       lab tune FILE STARTS --observer L [--env flat|part|part2] [--machine M] [--budget T] [--of #K] [--bits B]
        lab check FILE --json
        lab help [COMMAND]
        lab version

@@ -1,0 +1,39 @@
+//! The cheapest of the choices that tell few things.
+
+ghost use Rattle.std.specs.Prelude.{◌≡◌, ◌^◌, leb, MatchOption};
+ghost use Rattle.first_front.specs.Enough.{AllTellMore, IsCheapest, is_cheaper};
+
+use crate::interval::Interval;
+
+impl Interval {
+    // Whether it tells at most 2^bits things.
+    fn is_few(&self, bits: u32) -> bool
+        ensures { result ≡ leb self.now.things (2 ^ bits) }
+    {
+        bits >= 64 || self.things as u64 <= 1 << bits
+    }
+
+    // Whether it tells at most 2^bits things, and costs less than what was found before, if something was.
+    fn is_cheaper(&self, bits: u32, found: Option<Interval>) -> bool
+        ensures { result ≡ is_cheaper self.now (2 ^ bits) found }
+    {
+        match found {
+            None => self.is_few(bits),
+            Some(known) => self.is_few(bits) && self.cost < known.cost,
+        }
+    }
+}
+
+/// The cheapest of some intervals that tell at most 2^bits things, the first of them where several are; none where each of
+/// them tells more.
+pub fn enough(intervals: &[Interval], bits: u32) -> Option<Interval>
+    ensures { MatchOption result (AllTellMore intervals.now (2 ^ bits)) (IsCheapest intervals.now (2 ^ bits)) }
+{
+    let mut found = None;
+    for interval in intervals {
+        if interval.is_cheaper(bits, found) {
+            found = Some(*interval);
+        }
+    }
+    found
+}
