@@ -81,7 +81,8 @@ module _ {E : Type 0} (v : Env E) (p : LabelledProgram) (o t : ℕ) (ss : List (
     refuses (TooMuch m) x =
         let shown : w.tally.shown ≡ shown_by v p o t s = seen.tallies.shown in
         let all : m ≡ shown_by_all v p o t h.before + shown_by v p o t s = omega (arith, x.1, shown, h.shown) in
-        refused_now (TooMuch m) (λ must. goes_halted run.halted run.core.clock (ap (unfinished true) (sym seen.end) ∙ x.0), all, x.2)
+        let halted = goes_halted run.halted run.core.clock (ap (unfinished true) (sym seen.end) ∙ x.0) in
+        refused_now (TooMuch m) ((λ must. halted), all, x.2)
     refuses Memory x = tt
 
     -- a run that is taken in
