@@ -5,9 +5,9 @@
 _lab_options() {
     case $1 in
         why) echo "--of" ;;
-        seen) echo "--observer --env --machine --budget --refused" ;;
+        seen | leak) echo "--observer --env --machine --budget --refused" ;;
         timeline) echo "--env --machine --budget --observer --refused" ;;
-        bound | leak) echo "--observer --env --machine --budget" ;;
+        bound) echo "--observer --env --machine --budget" ;;
         steady) echo "--observer --parts --constant --whole" ;;
         tune) echo "--observer --env --machine --budget --of --bits" ;;
         check) echo "--json" ;;

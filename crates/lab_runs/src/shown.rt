@@ -82,8 +82,12 @@ fn shown_program(
     }
 }
 
-// From a file to what runs, and from an observer's name to a label.
-fn shown_file<S: Shelf>(
+/// What runs of the program of a file, and the label of an observer that is named. With `refused_too` a program runs also where
+/// no labels type it.
+///
+/// # Errors
+/// Stops with the first refusal, or with `Memory`.
+pub fn shown_file<S: Shelf>(
     alloc: Global,
     shelf: &mut S,
     file: &str,

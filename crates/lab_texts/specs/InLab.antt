@@ -11,7 +11,7 @@ lab_usage_text =
     ++ (codes "       lab timeline FILE STARTS [--env flat|part|part2] [--machine M] [--budget T] [--observer L] [--refused]\n"
     ++ (codes "       lab bound FILE STARTS --observer L [--env flat|part|part2] [--machine M] [--budget T]\n"
     ++ (codes "       lab steady FILE --observer L [--parts P] [--constant NAMES] [--whole]\n"
-    ++ (codes "       lab leak FILE STARTS --observer L [--env flat|part|part2] [--machine M] [--budget T]\n"
+    ++ (codes "       lab leak FILE STARTS --observer L [--env flat|part|part2] [--machine M] [--budget T] [--refused]\n"
     ++ (codes "       lab tune FILE STARTS --observer L [--env flat|part|part2] [--machine M] [--budget T] [--of #K] [--bits B]\n"
     ++ (codes "       lab check FILE --json\n"
     ++ (codes "       lab help [COMMAND]\n"

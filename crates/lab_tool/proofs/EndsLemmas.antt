@@ -102,11 +102,11 @@ completes_in env old new Rises content (steady file observer parts constant whol
     ends_as old new (BeforeIn env content (steady file observer parts constant whole))
     (IsAnswerIn env Rises content (steady file observer parts constant whole)) r e
     ends (λ f. n (write f)) (λ t h. steady_ends constant Rises content file observer (parts_or parts observer) whole r e t k.0 k.1 can h)
-completes_in env old new Rises content (leak file starts observer machine budget) r Rose ends write e known can none n =
+completes_in env old new Rises content (leak file starts observer machine budget refused) r Rose ends write e known can none n =
     let k = first_file Rises content file (starts ∷ []) none known in
     let m = second_file Rises content file starts [] none known in
-    done_if (CanLeak content file starts observer env budget) r e can (λ goes.
-    leak_completes old new Rises content file starts observer env budget r Rose ends write goes k.0 m.0 n)
+    done_if (CanLeak refused content file starts observer env budget) r e can (λ goes.
+    leak_completes old new refused Rises content file starts observer env budget r Rose ends write goes k.0 m.0 n)
 completes_in env old new Rises content (tune file starts observer machine budget mark bits) r Rose ends write e known can none n =
     let k = first_file Rises content file (starts ∷ []) none known in
     let m = second_file Rises content file starts [] none known in

@@ -110,11 +110,11 @@ answers_one_in env content before now (steady file observer parts constant whole
     let good = first_file rises content file [] none known in
     let one = one_in constant file observer (parts_or parts observer) whole rises content s u t x good.0 good.1 h k in
     one
-answers_one_in env content before now (leak file starts observer machine budget) s u t x known none h k =
+answers_one_in env content before now (leak file starts observer machine budget refused) s u t x known none h k =
     let rises = λ (name : List ℕ). Rose (before name) (now name) in
     let good = first_file rises content file (starts ∷ []) none known in
     let other = second_file rises content file starts [] none known in
-    let one = one_leak_in_lab content before now file starts observer env budget s u t x good.1 other.1 good.0 other.0 h k in
+    let one = one_leak_in_lab content before now file starts observer env budget refused s u t x good.1 other.1 good.0 other.0 h k in
     one
 answers_one_in env content before now (tune file starts observer machine budget mark bits) s u t x known none h k =
     let rises = λ (name : List ℕ). Rose (before name) (now name) in

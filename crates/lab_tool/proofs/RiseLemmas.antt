@@ -82,17 +82,18 @@ module _ (Rises Rises' : List ℕ → Type 0) (content : Content) (rise : (name 
   shows_rise refused file starts observer IsText s t (inr (p, reads, inr (o, sees, inr (x, shows, inr (code, image, inr h))))) =
       inr (p, reads, inr (o, sees, inr (x, shows, inr (code, image, inr h))))
 
-  leaks_rise : (e : Environment) (t : ℕ) (file starts observer : List ℕ) (s : Status) (x : List ℕ) → Leaks Rises content file starts observer e t s x
-      → Leaks Rises' content file starts observer e t s x
-  leaks_rise e t file starts observer s x (inl h) = inl (program_rise (Rises file) (Rises' file) (content file) s x (rise file) h)
-  leaks_rise e t file starts observer s x (inr (p, reads, inl h)) = inr (p, reads, inl h)
-  leaks_rise e t file starts observer s x (inr (p, reads, inr (o, sees, inl h))) = inr (p, reads, inr (o, sees, inl h))
-  leaks_rise e t file starts observer s x (inr (p, reads, inr (o, sees, inr (q, types, inl h)))) = inr (p, reads, inr (o, sees, inr (q, types, inl h)))
-  leaks_rise e t file starts observer s x (inr (p, reads, inr (o, sees, inr (q, types, inr (code, image, inl h))))) =
-      let stop = given_rise (Rises starts) (Rises' starts) (content starts) p s x (rise starts) h in
-      inr (p, reads, inr (o, sees, inr (q, types, inr (code, image, inl stop))))
-  leaks_rise e t file starts observer s x (inr (p, reads, inr (o, sees, inr (q, types, inr (code, image, inr h))))) =
-      inr (p, reads, inr (o, sees, inr (q, types, inr (code, image, inr h))))
+  leaks_rise : (e : Environment) (t : ℕ) (refused : Bool) (file starts observer : List ℕ) (s : Status) (y : List ℕ)
+      → Leaks refused Rises content file starts observer e t s y → Leaks refused Rises' content file starts observer e t s y
+  leaks_rise e t refused file starts observer s y (inl h) = inl (program_rise (Rises file) (Rises' file) (content file) s y (rise file) h)
+  leaks_rise e t refused file starts observer s y (inr (p, reads, inl h)) = inr (p, reads, inl h)
+  leaks_rise e t refused file starts observer s y (inr (p, reads, inr (o, sees, inl h))) = inr (p, reads, inr (o, sees, inl h))
+  leaks_rise e t refused file starts observer s y (inr (p, reads, inr (o, sees, inr (x, shows, inl h)))) =
+      inr (p, reads, inr (o, sees, inr (x, shows, inl h)))
+  leaks_rise e t refused file starts observer s y (inr (p, reads, inr (o, sees, inr (x, shows, inr (code, image, inl h))))) =
+      let stop = given_rise (Rises starts) (Rises' starts) (content starts) p s y (rise starts) h in
+      inr (p, reads, inr (o, sees, inr (x, shows, inr (code, image, inl stop))))
+  leaks_rise e t refused file starts observer s y (inr (p, reads, inr (o, sees, inr (x, shows, inr (code, image, inr h))))) =
+      inr (p, reads, inr (o, sees, inr (x, shows, inr (code, image, inr h))))
 
   -- what answers it answers it
   pub answer_rises : (e : Environment) (a : Asked) (s : Status) (t : List ℕ) → IsAnswerIn e Rises content a s t → IsAnswerIn e Rises' content a s t
@@ -114,8 +115,8 @@ module _ (Rises Rises' : List ℕ → Type 0) (content : Content) (rise : (name 
   answer_rises e (steady file observer parts constant whole) s t (m, inr (costing, of, inl h), is) =
       (m, inr (costing, of, inl (program_rise (Rises file) (Rises' file) (content file) s m (rise file) h)), is)
   answer_rises e (steady file observer parts constant whole) s t (m, inr (costing, of, inr h), is) = (m, inr (costing, of, inr h), is)
-  answer_rises e (leak file starts observer machine budget) s t h =
-      (h.0, leaks_rise e budget file starts observer s h.0 h.1, h.2)
+  answer_rises e (leak file starts observer machine budget refused) s t h =
+      (h.0, leaks_rise e budget refused file starts observer s h.0 h.1, h.2)
   answer_rises e (tune file starts observer machine budget mark bits) s t h =
       (h.0, prepares_rise file starts observer (λ p q o code ss. HasTune e budget mark bits q o ss) s h.0 h.1, h.2)
   answer_rises e (check file) s t (inl h) = inl (check_rise (Rises file) (Rises' file) (content file) s t (rise file) h)

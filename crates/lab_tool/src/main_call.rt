@@ -108,9 +108,10 @@ fn obey_in<S: Shelf, W: Sink>(
             observer,
             machine: _,
             budget,
+            refused,
         } => {
             let setting = Setting { env, budget };
-            leak(alloc, shelf, out, file, starts, observer, setting)
+            leak(alloc, shelf, out, file, starts, observer, setting, refused)
         }
         Question::Tune {
             file,

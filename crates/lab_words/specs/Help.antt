@@ -74,14 +74,15 @@ steady_help =
 
 unfoldable pub leak_help : Text
 leak_help =
-    codes "usage: lab leak FILE STARTS --observer L [--env flat|part|part2] [--machine M] [--budget T]\n"
+    codes "usage: lab leak FILE STARTS --observer L [--env flat|part|part2] [--machine M] [--budget T] [--refused]\n"
     ++ (codes "what these runs tell, exactly\n"
     ++ (codes "  FILE        program\n"
     ++ (codes "  STARTS      starts\n"
     ++ (codes "  --observer  label: who sees\n"
     ++ (codes "  --env       environment: where costs come from; part where it is left out\n"
     ++ (codes "  --machine   machine file: a machine in place of an environment\n"
-    ++ codes "  --budget    cycles: the last cycle; 1000000 where it is left out\n"))))))
+    ++ (codes "  --budget    cycles: the last cycle; 1000000 where it is left out\n"
+    ++ codes "  --refused   runs a refused program too\n")))))))
 
 unfoldable pub tune_help : Text
 tune_help =

@@ -17,7 +17,8 @@ pub data MachineAsked : Type 0 where
   described : Text → MachineAsked
 
 -- A question with the bytes of its texts, in the order of `Question`: file, starts, observer, machine and budget;
--- of `seen` and `timeline` also whether refused programs run, of `tune` the mark of a mitigate and the greatest number of bits, if there is one;
+-- of `seen`, `timeline` and `leak` also whether refused programs run, of `tune` the mark of a mitigate and the greatest number of bits, if
+-- there is one;
 -- of `steady` file, observer, parts, names of operators, and whether the whole run is asked about;
 -- of `help` the command, if there is one.
 pub data Asked : Type 0 where
@@ -27,7 +28,7 @@ pub data Asked : Type 0 where
   timeline : Text → Text → Option Text → MachineAsked → ℕ → Bool → Asked
   bound : Text → Text → Text → MachineAsked → ℕ → Asked
   steady : Text → Text → Option Text → Option Text → Bool → Asked
-  leak : Text → Text → Text → MachineAsked → ℕ → Asked
+  leak : Text → Text → Text → MachineAsked → ℕ → Bool → Asked
   tune : Text → Text → Text → MachineAsked → ℕ → ℕ → Option ℕ → Asked
   check : Text → Asked
   help : Option Verb → Asked
@@ -132,7 +133,8 @@ given Timeline rows = timeline_asked (first_of (codes "FILE") rows) (first_of (c
 given Bound rows = runs_given bound rows
 given Steady rows = steady_asked (first_of (codes "FILE") rows) (first_of (codes "observer") rows) (first_of (codes "parts") rows)
     (first_of (codes "constant") rows) (flag_given (codes "whole") rows)
-given Leak rows = runs_given leak rows
+given Leak rows = runs_given (λ file starts observer machine budget.
+    leak file starts observer machine budget (flag_given (codes "refused") rows)) rows
 given Tune rows = tune_asked (first_of (codes "FILE") rows) (first_of (codes "STARTS") rows) (first_of (codes "observer") rows) (machine_given rows)
     (budget_given rows) (mark_given rows) (bits_given rows)
 given Check rows = check_asked (first_of (codes "FILE") rows) (flag_given (codes "json") rows)
@@ -161,7 +163,7 @@ IsInRange (seen file starts observer machine budget refused) = IsCycles budget
 IsInRange (timeline file starts observer machine budget refused) = IsCycles budget
 IsInRange (bound file starts observer machine budget) = IsCycles budget
 IsInRange (steady file observer parts constant whole) = ⊤
-IsInRange (leak file starts observer machine budget) = IsCycles budget
+IsInRange (leak file starts observer machine budget refused) = IsCycles budget
 IsInRange (tune file starts observer machine budget mark bits) = IsCycles budget
 IsInRange (check file) = ⊤
 IsInRange (help command) = ⊤

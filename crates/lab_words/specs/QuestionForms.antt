@@ -27,8 +27,8 @@ abbrev pub runs_app : Text → App
 runs_app name = with_rule (observed_app name) (option_rule (codes "machine"))
 
 -- the same and [--refused]
-abbrev pub seen_app : App
-seen_app = with_rule (runs_app (codes "seen")) (flag_rule (codes "refused"))
+abbrev pub shown_app : Text → App
+shown_app name = with_rule (runs_app name) (flag_rule (codes "refused"))
 
 -- FILE --observer L [--parts P] [--constant NAMES] [--whole]
 abbrev pub steady_app : App
@@ -54,11 +54,11 @@ help_app = with_rule (bare (new_app (codes "help"))) (new_rule (codes "COMMAND")
 -- the words that follow each command word
 abbrev pub form_app : Verb → App
 form_app Why = why_app
-form_app Seen = seen_app
+form_app Seen = shown_app (codes "seen")
 form_app Timeline = timeline_app
 form_app Bound = runs_app (codes "bound")
 form_app Steady = steady_app
-form_app Leak = runs_app (codes "leak")
+form_app Leak = shown_app (codes "leak")
 form_app Tune = tune_app
 form_app Check = check_app
 form_app Help = help_app

@@ -20,7 +20,7 @@ asked_of (question.Timeline file starts observer machine budget refused) =
 asked_of (question.Bound file starts observer machine budget) = bound file.now starts.now observer.now (machine_of machine) budget
 asked_of (question.Steady file observer parts constant whole) =
     steady file.now observer.now (option_map (λ l. l.now) parts) (option_map (λ w. w.now) constant) whole
-asked_of (question.Leak file starts observer machine budget) = leak file.now starts.now observer.now (machine_of machine) budget
+asked_of (question.Leak file starts observer machine budget refused) = leak file.now starts.now observer.now (machine_of machine) budget refused
 asked_of (question.Tune file starts observer machine budget mark bits) = tune file.now starts.now observer.now (machine_of machine) budget mark bits
 asked_of (question.Check file) = check file.now
 asked_of (question.Help command) = help command

@@ -2,7 +2,7 @@
 
 ghost use Rattle.std.specs.Prelude.{◌≡◌, false, IfOk};
 ghost use Rattle.clap.specs.Words.{app_of, rule_of};
-ghost use Rattle.lab_words.specs.QuestionForms.{check_app, flag_rule, form_app, help_app, mark_rule, runs_app, seen_app};
+ghost use Rattle.lab_words.specs.QuestionForms.{check_app, flag_rule, form_app, help_app, mark_rule, runs_app, shown_app};
 ghost use Rattle.lab_words.specs.QuestionForms.{steady_app, timeline_app, tune_app, why_app};
 
 use crate::verbs::Verb;
@@ -49,11 +49,11 @@ fn runs_form<'a>(alloc: Global, name: &'a str) -> Result<Form<'a>, AllocError>
     observed_form(alloc, name)?.arg(option(alloc, "machine"))
 }
 
-/// `seen FILE STARTS --observer L [--env E] [--machine M] [--budget T] [--refused]`.
-fn seen_form<'a>(alloc: Global) -> Result<Form<'a>, AllocError>
-    ensures { IfOk result (λ f. app_of f ≡ seen_app) }
+/// `FILE STARTS --observer L [--env E] [--machine M] [--budget T] [--refused]`.
+fn shown_form<'a>(alloc: Global, name: &'a str) -> Result<Form<'a>, AllocError>
+    ensures { IfOk result (λ f. app_of f ≡ shown_app name.entry.now) }
 {
-    runs_form(alloc, "seen")?.arg(flag(alloc, "refused"))
+    runs_form(alloc, name)?.arg(flag(alloc, "refused"))
 }
 
 /// `steady FILE --observer L [--parts P] [--constant NAMES] [--whole]`.
@@ -107,11 +107,11 @@ pub(crate) fn form<'a>(alloc: Global, verb: Verb) -> Result<Form<'a>, AllocError
 {
     match verb {
         Verb::Why => why_form(alloc),
-        Verb::Seen => seen_form(alloc),
+        Verb::Seen => shown_form(alloc, "seen"),
         Verb::Timeline => timeline_form(alloc),
         Verb::Bound => runs_form(alloc, "bound"),
         Verb::Steady => steady_form(alloc),
-        Verb::Leak => runs_form(alloc, "leak"),
+        Verb::Leak => shown_form(alloc, "leak"),
         Verb::Tune => tune_form(alloc),
         Verb::Check => check_form(alloc),
         Verb::Help => help_form(alloc),

@@ -100,7 +100,7 @@ whether code is constant in time
 fn leak_help() -> &'static [u8]
     ensures { result.now ≡ leak_help }
 {
-    b"usage: lab leak FILE STARTS --observer L [--env flat|part|part2] [--machine M] [--budget T]
+    b"usage: lab leak FILE STARTS --observer L [--env flat|part|part2] [--machine M] [--budget T] [--refused]
 what these runs tell, exactly
   FILE        program
   STARTS      starts
@@ -108,6 +108,7 @@ what these runs tell, exactly
   --env       environment: where costs come from; part where it is left out
   --machine   machine file: a machine in place of an environment
   --budget    cycles: the last cycle; 1000000 where it is left out
+  --refused   runs a refused program too
 "
 }
 

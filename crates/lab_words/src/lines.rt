@@ -104,7 +104,7 @@ fn form_told(verb: Verb) -> &'static [u8]
         Verb::Steady =>
             b"steady FILE --observer LABEL [--parts LABEL] [--constant NAMES] [--whole]\n",
         Verb::Leak =>
-            b"leak FILE STARTS --observer LABEL [--env flat|part|part2] [--machine M] [--budget 1..1099511627776]\n",
+            b"leak FILE STARTS --observer LABEL [--env flat|part|part2] [--machine M] [--budget 1..1099511627776] [--refused]\n",
         Verb::Tune =>
             b"tune FILE STARTS --observer LABEL [--env flat|part|part2] [--machine M] [--budget 1..1099511627776] [--of #K] [--bits 0..64]\n",
         Verb::Check => b"check FILE --json\n",

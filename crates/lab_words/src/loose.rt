@@ -3,7 +3,7 @@
 ghost use Rattle.std.specs.Prelude.{◌≡◌, IfOk};
 ghost use Rattle.clap.specs.Words.{app_of};
 ghost use Rattle.tool_words.specs.WordsForms.{observed_app};
-ghost use Rattle.lab_words.specs.QuestionForms.{check_app, form_app, runs_app, seen_app, steady_app, timeline_app, tune_app, why_app};
+ghost use Rattle.lab_words.specs.QuestionForms.{check_app, form_app, runs_app, shown_app, steady_app, timeline_app, tune_app, why_app};
 ghost use Rattle.lab_words.specs.Refusal.{loosened};
 
 use crate::forms::{flag, help_form, mark};
@@ -41,11 +41,11 @@ fn runs_form<'a>(alloc: Global, name: &'a str) -> Result<Form<'a>, AllocError>
     observed_form(alloc, name)?.arg(option(alloc, "machine"))
 }
 
-/// `seen [FILE] [STARTS] [--observer L] [--env E] [--machine M] [--budget T] [--refused]`.
-fn seen_form<'a>(alloc: Global) -> Result<Form<'a>, AllocError>
-    ensures { IfOk result (λ f. app_of f ≡ loosened seen_app) }
+/// `[FILE] [STARTS] [--observer L] [--env E] [--machine M] [--budget T] [--refused]`.
+fn shown_form<'a>(alloc: Global, name: &'a str) -> Result<Form<'a>, AllocError>
+    ensures { IfOk result (λ f. app_of f ≡ loosened (shown_app name.entry.now)) }
 {
-    runs_form(alloc, "seen")?.arg(flag(alloc, "refused"))
+    runs_form(alloc, name)?.arg(flag(alloc, "refused"))
 }
 
 /// `timeline [FILE] [STARTS] [--env E] [--machine M] [--budget T] [--observer L] [--refused]`.
@@ -98,11 +98,11 @@ pub(crate) fn loose_form<'a>(alloc: Global, verb: Verb) -> Result<Form<'a>, Allo
 {
     match verb {
         Verb::Why => why_form(alloc),
-        Verb::Seen => seen_form(alloc),
+        Verb::Seen => shown_form(alloc, "seen"),
         Verb::Timeline => timeline_form(alloc),
         Verb::Bound => runs_form(alloc, "bound"),
         Verb::Steady => steady_form(alloc),
-        Verb::Leak => runs_form(alloc, "leak"),
+        Verb::Leak => shown_form(alloc, "leak"),
         Verb::Tune => tune_form(alloc),
         Verb::Check => check_form(alloc),
         Verb::Help => help_form(alloc),

@@ -60,13 +60,14 @@ pub enum Question<'a> {
         constant: Option<&'a str>,
         whole: bool,
     },
-    /// `leak FILE STARTS --observer L [--env E | --machine M] [--budget T]`, `budget` from 1 to `MAX_CYCLES`
+    /// `leak FILE STARTS --observer L [--env E | --machine M] [--budget T] [--refused]`, `budget` from 1 to `MAX_CYCLES`
     Leak {
         file: &'a str,
         starts: &'a str,
         observer: &'a str,
         machine: Machine<'a>,
         budget: u64,
+        refused: bool,
     },
     /// `tune FILE STARTS --observer L [--env E | --machine M] [--budget T] [--of #K] [--bits B]`, `budget` from 1 to
     /// `MAX_CYCLES`, `bits` from 0 to 64

@@ -145,12 +145,14 @@ fn leak<'a>(matches: &ArgMatches<'a>) -> Option<Question<'a>>
     let observer = text(matches, "observer")?;
     let machine = machine(matches)?;
     let budget = budget(matches)?;
+    let refused = flag(matches, "refused");
     Some(Question::Leak {
         file,
         starts,
         observer,
         machine,
         budget,
+        refused,
     })
 }
 

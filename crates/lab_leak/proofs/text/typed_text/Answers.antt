@@ -4,7 +4,7 @@ use Rattle.timing_types.specs.Labelled.{LabelledProgram}
 use Rattle.space_starts.specs.Space.{seen}
 use Rattle.tool_texts.specs.Ends.{IsStop}
 use Rattle.space_leak.specs.Answer.{HasSpaceLeak}
-use Rattle.lab_leak.proofs.text.given_text.Goals as goal
+use Rattle.lab_leak.proofs.text.typed_text.Goals as goal
 
 pub returns-clause-stop : goal.returns-clause-stop
 returns-clause-stop g c =

@@ -1,7 +1,7 @@
 use Rattle.std.proofs.Common.{◌∙◌, ap₂}
 use Rattle.std.proofs.lemmas.Result.{IfOk-weaker}
 use Rattle.clap.specs.Words.{with_rule}
-use Rattle.lab_words.proofs.loose.seen_form.Goals as goal
+use Rattle.lab_words.proofs.loose.shown_form.Goals as goal
 
 pub returns : goal.returns
 returns c =
