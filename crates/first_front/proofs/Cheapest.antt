@@ -1,14 +1,15 @@
 -- The cheapest of the first so many intervals that tell few things.
-use Rattle.std.proofs.Common.{◌≡◌, ◌≤◌, ◌<◌, ◌+◌, ℕ, List, length, get_or, arith, ap, sym, ◌∙◌, subst, inl, inr}
+use Rattle.std.proofs.Common.{◌≡◌, ◌≤◌, ◌<◌, ◌+◌, ◌^◌, ℕ, List, length, get_or, arith, ap, sym, ◌∙◌, subst, inl, inr}
 use Rattle.std.specs.Prelude.{Option, Some, None, true, false, leb, ltb, ◌&&◌, MatchOption}
 use Rattle.std.specs.List.{IsAmong}
 use Rattle.std.proofs.lemmas.Bool.{cases_lt, and_parts, and_from, leb-true, ltb-true, lt-ltb, le-leb, both_ways}
+use Rattle.std.proofs.Math.Pow.{pow_mono}
 use Rattle.std.proofs.lemmas.List.{get_or_default}
 use Rattle.first_front.specs.declared.interval.Interval.{Interval}
 use Rattle.first_front.specs.Enough.{IsCheapest, AllTellMore, is_cheaper}
 
 -- it holds of each of the first so many
-abbrev Before : (Interval → Type 0) → List Interval → ℕ → Type 0
+abbrev pub Before : (Interval → Type 0) → List Interval → ℕ → Type 0
 Before P is i = (k : ℕ) (d : Interval) → k < i → P (get_or is k d)
 
 -- the cheapest of the first so many that tell few things, or that each of them tells more
@@ -87,3 +88,9 @@ pub all_found : (is : List Interval) (most i : ℕ) (found : Option Interval) �
     MatchOption found (AllTellMore is most) (IsCheapest is most)
 all_found is most i None le h = λ k d l. h k d (omega (arith, l, le))
 all_found is most i (Some j) le h = record { there = h.there; few = h.few; cheapest = λ k d l. h.cheapest k d (omega (arith, l, le)) }
+
+-- what fits in 64 bits is at most the number of things that 64 bits tell
+pub many_bits : (things bits : ℕ) → things < 2 ^ 64 → 64 ≤ bits → leb things (2 ^ bits) ≡ true
+many_bits things bits small many =
+    let most : 2 ^ 64 ≤ 2 ^ bits = pow_mono many in
+    le-leb things (2 ^ bits) (omega (arith, small, most))

@@ -7,4 +7,4 @@ pub mod Fronting
 pub mod Single
 pub mod Alike
 pub mod Cheapest
-pub mod Enough
+pub mod Sufficing

@@ -10,7 +10,10 @@ impl Interval {
     fn is_few(&self, bits: u32) -> bool
         ensures { result ≡ leb self.now.things (2 ^ bits) }
     {
-        bits >= 64 || self.things as u64 <= 1 << bits
+        if bits >= 64 {
+            return true;
+        }
+        self.things as u128 <= 2u128.pow(bits)
     }
 
     // Whether it tells at most 2^bits things, and costs less than what was found before, if something was.

@@ -2,3 +2,4 @@ pub mod Answering
 pub mod Choices
 pub mod Named
 pub mod Single
+pub mod Telling

@@ -8,7 +8,7 @@ use Rattle.label_code.specs.Shaped.{Code}
 use Rattle.start_file.specs.Starts.{StartValue}
 use Rattle.first_front.specs.declared.interval.Interval.{Interval}
 use Rattle.first_front.specs.Enough.{IsCheapest, AllTellMore}
-use Rattle.first_front.proofs.Enough.{enough_at, cheapest_of, none_enough, none_of, one_cheapest, not_both}
+use Rattle.first_front.proofs.Sufficing.{enough_at, cheapest_of, none_enough, none_of, one_cheapest, not_both}
 use Rattle.start_tune.specs.Runs.{AreBest}
 use Rattle.start_tune.specs.Enough.{IsCheapestFew, NoneTellsFew, OneCheapestFew}
 use Rattle.start_tune.proofs.Single.{one_best}
