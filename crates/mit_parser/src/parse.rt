@@ -10,28 +10,32 @@ use crate::fault::ParseFault;
 use crate::names::Names;
 use crate::parser::Parser;
 use label_lattice::label::Label;
+use label_lattice::lattice::Lattice;
 use mit_syntax::ast::Command;
+use mit_syntax::declarations::Variables;
 use mit_syntax::program::Program;
 use mit_syntax::token::Token;
 use std::alloc::{AllocError, Global};
 
-// The program of these parts.
+// The program of these parts. Its copy of the lattice stands on the stack only here.
+#[inline(never)]
 fn assembled(
     alloc: Global,
     pairs: Vec<(Label, Label)>,
-    names: Names,
+    lattice: &Option<Lattice>,
+    variables: Variables,
     body: Vec<Command>,
 ) -> Result<Program, AllocError>
-    requires { AreParts names.lattice pairs.items names.variables body.items }
-    ensures { IfOk result (IsAssembled names.lattice pairs.items names.variables body.items) }
+    requires { AreParts lattice.now pairs.items variables body.items }
+    ensures { IfOk result (IsAssembled lattice.now pairs.items variables body.items) }
 {
-    let Some(lattice) = names.lattice else {
+    let Some(lattice) = lattice else {
         unreachable!()
     };
     lattice.laws();
-    names.variables.laws();
-    let lattice = Box::new(alloc, lattice)?;
-    Ok(Program::of(lattice, pairs, names.variables, body))
+    variables.laws();
+    let lattice = Box::new(alloc, *lattice)?;
+    Ok(Program::of(lattice, pairs, variables, body))
 }
 
 /// The program that the tokens of a text of at most 2^31 - 1 bytes spell.
@@ -65,7 +69,7 @@ pub fn parse(alloc: Global, tokens: &[Token], text: &[u8]) -> Result<Program, Pa
     }
     match parser.fault() {
         Some(fault) => Err(fault),
-        None => match assembled(alloc, header.pairs, names, body) {
+        None => match assembled(alloc, header.pairs, &names.lattice, names.variables, body) {
             Ok(program) => Ok(program),
             Err(_) => Err(ParseFault::Memory),
         },
