@@ -280,10 +280,16 @@ pub(crate) fn open_text<W: Watch>(
     match given {
         StartSet::List(starts) => {
             let list = starts.as_slice();
-            open_list(alloc, p, refusal, image, observer, list, setting, watch)
+            match open_list(alloc, p, refusal, image, observer, list, setting, watch) {
+                Ok(text) => Ok(text),
+                Err(stop) => Err(stop),
+            }
         }
         StartSet::Space(space) => {
-            open_space(alloc, p, refusal, image, observer, &space, setting, watch)
+            match open_space(alloc, p, refusal, image, observer, &space, setting, watch) {
+                Ok(text) => Ok(text),
+                Err(stop) => Err(stop),
+            }
         }
     }
 }
