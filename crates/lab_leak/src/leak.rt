@@ -63,6 +63,8 @@ pub fn leak<S: Shelf, W: Sink>(
     ensures ordered { NumbersAreOrdered setting.env setting.budget }
 {
     numbers_are_ordered();
-    let text = leak_text(alloc, shelf, file, starts, observer, setting, refused, &*out);
+    let text = leak_text(
+        alloc, shelf, file, starts, observer, setting, refused, &*out,
+    );
     tell(out, text)
 }

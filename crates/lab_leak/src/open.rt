@@ -139,7 +139,13 @@ fn told_text(
     let mut text = Vec::new(alloc);
     machine::put_head(&mut text, setting.env)?;
     let runs = starts.len() as u64;
-    put_open(&mut text, p.program().lattice(), observer, setting.budget, runs)?;
+    put_open(
+        &mut text,
+        p.program().lattice(),
+        observer,
+        setting.budget,
+        runs,
+    )?;
     put_numbers(&mut text, runs, found.sizes.as_slice())?;
     let whole = with_classes(alloc, p, image, observer, starts, setting, &found, text)?;
     Ok(whole)
@@ -164,7 +170,15 @@ fn list_text<W: Watch>(
         Ok(classes) => classes,
         Err(fault) => return Err(audit_stop(p.program(), fault)),
     };
-    match told_text(alloc, p, image, observer, starts, setting, classes.as_slice()) {
+    match told_text(
+        alloc,
+        p,
+        image,
+        observer,
+        starts,
+        setting,
+        classes.as_slice(),
+    ) {
         Ok(text) => Ok(text),
         Err(_) => Err(no_memory()),
     }
@@ -266,10 +280,16 @@ pub(crate) fn open_text<W: Watch>(
     match given {
         StartSet::List(starts) => {
             let list = starts.as_slice();
-            open_list(alloc, p, refusal, image, observer, list, setting, watch)
+            match open_list(alloc, p, refusal, image, observer, list, setting, watch) {
+                Ok(text) => Ok(text),
+                Err(stop) => Err(stop),
+            }
         }
         StartSet::Space(space) => {
-            open_space(alloc, p, refusal, image, observer, &space, setting, watch)
+            match open_space(alloc, p, refusal, image, observer, &space, setting, watch) {
+                Ok(text) => Ok(text),
+                Err(stop) => Err(stop),
+            }
         }
     }
 }

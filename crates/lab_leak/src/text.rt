@@ -119,7 +119,9 @@ fn told_text(
     put_numbers(&mut text, runs, found.sizes.as_slice())?;
     let (labelled, starts) = (p.compiled.typed.labelled(), p.starts.as_slice());
     let image = &p.compiled.image;
-    let whole = with_classes(alloc, labelled, image, p.observer, starts, setting, &found, text)?;
+    let whole = with_classes(
+        alloc, labelled, image, p.observer, starts, setting, &found, text,
+    )?;
     Ok(whole)
 }
 

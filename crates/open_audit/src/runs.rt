@@ -54,7 +54,9 @@ impl Kept {
     {
         let Observed { tally, end } = seen;
         let Tally {
-            mut events, shown, ..
+            mut events,
+            shown,
+            ..
         } = tally;
         if let Some(cycle) = unfinished(end) {
             return Err(SurveyFault::Unfinished { run, cycle });

@@ -22,8 +22,7 @@ returns c =
     let order : c.lattice.result.now ≡ q.program.order = c.lattice.ensures ∙ ap (λ z. z.order) c.program.ensures.program in
     let runs : length c.args.starts.now ≡ r.runs = sym (runs_counted e q l.number t ss c.args.classes.now reported ∙ length-map c.args.starts.now seen) in
     let shown : c.put_open.new.text.items ≡ c.put_head.new.text.items ++ shown_head q.program.order l t r =
-    c.in_ok-put_open.ensures r (sym runs) ∙ ap (λ (z : Order). c.put_head.new.text.items ++ shown_head z l t r) order in
-    (
+    c.in_ok-put_open.ensures r (sym runs) ∙ ap (λ (z : Order). c.put_head.new.text.items ++ shown_head z l t r) order in (
       r,
       reported.is,
       open_put e q l t r (classes_of_runs zs) c.in_ok-found.found (length c.args.starts.now) c.as_slice.result.now c.new-text.result.items
