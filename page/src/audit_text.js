@@ -16,15 +16,18 @@ function numberBox(number, says, more = '') {
 // The name of a limit, at whose colon no line begins.
 const limitName = (name) => `<span class="keep">${term(name)}:</span>`;
 
+// A number of bits, in one line.
+const bitsWord = (number) => `<span class="keep">${counted(number, 'bit')}</span>`;
+
 function boundBox({ base, exponent }) {
   return numberBox(powerText({ base, exponent }),
-    `at most, by the ${limitName('bound')} ${counted(bitsOf(base, exponent), 'bit')}`);
+    `at most, by the ${limitName('bound')} ${bitsWord(bitsOf(base, exponent))}`);
 }
 
 // The count by shared time, where that is less than the sharp one.
 function sharedBox({ sharp, shared }) {
   if (shared === undefined || (sharp !== undefined && shared >= sharp)) return '';
-  const bits = counted(bitsOf(shared, 1), 'bit');
+  const bits = bitsWord(bitsOf(shared, 1));
   return numberBox(boundText(shared), `at most, by ${limitName('shared time')} ${bits}`, wholeBound(shared));
 }
 
@@ -32,7 +35,7 @@ function sharedBox({ sharp, shared }) {
 function ownBox({ sharp, shared, own }) {
   const isLeast = own !== undefined && [sharp, shared].every((other) => other === undefined || own < other);
   if (!isLeast) return '';
-  const bits = counted(bitsOf(own, 1), 'bit');
+  const bits = bitsWord(bitsOf(own, 1));
   return numberBox(boundText(own), `at most, by ${limitName('own first predictions')} ${bits}`, wholeBound(own));
 }
 
@@ -54,7 +57,7 @@ export function auditBoxes({ report, sharp, space }) {
   const seen = numberBox(spaced(report.distinct), `different ${sequences} seen in ${runs}`);
   const limit = sharp?.sharp === undefined
     ? ''
-    : numberBox(boundText(sharp.sharp), `at most, by the ${limitName('sharp count')} ${counted(sharp.bits, 'bit')}`,
+    : numberBox(boundText(sharp.sharp), `at most, by the ${limitName('sharp count')} ${bitsWord(sharp.bits)}`,
     wholeBound(sharp.sharp));
   const last = report.sharing === 'shared' ? numberBox('none', NO_LIMIT) : boundBox(report);
   return seen + limit + (ownBox(sharp ?? {}) || sharedBox(sharp ?? {})) + last; // of the other counts the lesser one

@@ -39,7 +39,7 @@ export function choicesText(choices, current) {
   const least = `With ${spaced(fewest.first)} ${toldText(fewest.told)}, and ${endsText(fewest)}.`;
   return `${least}${nowText(choices, current)} No other one does better: each that is not here, from 1 to`
     + ` ${spaced(GREATEST)}, and with which all runs halt in time, tells at least as much as one of these, and its runs`
-    + ' end no earlier on the mean. From a choice to the end of its row no miss count changes.';
+    + ' end no earlier on the mean. All predictions of one row miss equally often.';
 }
 
 const HEADS = ['first prediction', 'the same up to', 'tells at most', 'mean end', 'last end', 'use it'];

@@ -16,9 +16,12 @@ export function commandsNow() {
   return commandLines(state, kind, { steady, banks: compared ? banksNow() : null, mark });
 }
 
+// The words of a line, each of which stays whole where the line is too long for its place.
+const wordsText = (line) => line.split(' ').map((word) => `<span class="keep">${escaped(word)}</span>`).join(' ');
+
 export function drawCommands() {
   const rows = commandsNow()
-    .map(({ says, line }) => `<div class="command"><span>${says}</span> <code>${escaped(line)}</code> `
+    .map(({ says, line }) => `<div class="command"><span>${says}</span> <code>${wordsText(line)}</code> `
     + `<button type="button" class="link"`
       + ` data-copy-line="${escaped(line)}" aria-label="Copy the command for ${says}">Copy</button></div>`);
   const text = rows.join('');

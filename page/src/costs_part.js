@@ -7,11 +7,11 @@ import { lacksCode, ownCodeText, readingNow, runNumber, unreadText } from './rea
 import { costsByLine, linesOfCode, withReading } from './reading_text.js';
 import { $, shown, state } from './state.js';
 
-const SAYS = 'Beside a line: 29 (1) +13, its code took 29 cycles in this run, 1 look-up in a cache missed, and 13'
+const SAYS = 'Beside a line, 29 (1) +13 says: its code took 29 cycles in this run, 1 look-up in a cache missed, and 13'
   + ' cycles were slept or waited. This is the page’s own reading of the run, which has each assignment, mitigation and'
   + ' end that the tool tells.';
-const TOLD = 'Beside a line: @9, a variable got its value at cycle 9; 115+13, the body of a mitigate worked 115 cycles'
-  + ' and 13 were waited. Lines of which the timeline tells nothing have none.';
+const TOLD = 'Beside a line, @9 says: a variable got its value at cycle 9; 115+13: the body of a mitigate worked 115'
+  + ' cycles and 13 were waited. Lines of which the timeline tells nothing have none.';
 
 /** Draws the cycles of the run that is looked at, or of the first one; nothing of a run of another program. */
 export function drawCosts() {

@@ -40,6 +40,7 @@ export class Editor {
       // a line that is too long goes on below: scrolling sideways lays out all that is in view at each key
       mode: 'timed', lineNumbers: true, lineWrapping: true, matchBrackets: true, gutters: GUTTERS,
       inputStyle: 'contenteditable', screenReaderLabel: 'Program', undoDepth: 2000, tabSize: 4, indentUnit: 2,
+      cursorScrollMargin: 24,
       extraKeys: { Tab: false, 'Shift-Tab': false, Enter: keepIndent },
     });
     this.isLoading = false;
@@ -215,10 +216,18 @@ function missing(name) {
   return span;
 }
 
+/** The numbers of the steps of a line, in the room that there is beside it. */
+export function stepsText(numbers) {
+  const first = numbers[0], last = numbers[numbers.length - 1];
+  if (first === last) return String(first);
+  if (last - first === numbers.length - 1) return `${first}–${last}`;
+  return numbers.length === 2 ? `${first},${last}` : `${first} …`;
+}
+
 function stepMarks(numbers) {
   const box = document.createElement('span');
   box.setAttribute('aria-hidden', 'true');
-  box.innerHTML = numbers.map(({ number, isLast }) => `<span class="step${isLast ? ' end' : ''}">${number}</span>`)
-    .join('');
+  box.className = 'step';
+  box.textContent = stepsText(numbers.map(({ number }) => number));
   return box;
 }

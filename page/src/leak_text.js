@@ -59,7 +59,7 @@ function limitsText({ distinct, sharp, base, exponent, sharing, isSpace }) {
 function fractionText([above, below]) {
   const hundredths = 100n * BigInt(above), of = BigInt(below), low = Number(hundredths / of);
   if (hundredths % of === 0n) return spaced(low / 100);
-  const cent = (number) => (number / 100).toFixed(2);
+  const cent = (number) => `${spaced(Math.floor(number / 100))}.${String(number % 100).padStart(2, '0')}`;
   return `${spaced(above)}/${spaced(below)}, from ${cent(low)} to ${cent(low + 1)},`;
 }
 
@@ -68,7 +68,7 @@ function guessText({ runs, right, guesses }) {
   return '<h3>Who guesses the start, each being as likely</h3><table class="numbers"><tbody>'
     + row(of(right.before), right.before / runs, HALF, 'right at first, before the run is seen')
     + row(of(right.after), right.after / runs, HALF, 'right at first, after it')
-    + `</tbody></table><p class="word">On the average it takes ${fractionText(guesses.before)} guesses before, and`
+    + `</tbody></table><p class="word">Guesses needed on the average: ${fractionText(guesses.before)} before, and`
     + ` ${fractionText(guesses.after)} after.</p>`;
 }
 

@@ -67,8 +67,8 @@ function drawTask() {
   const fresh = (name) => isFresh(name, answeredOf[name], state, faults);
   const checks = checksOf(step.task.goal, factsOf({ state, shown, fresh, given }));
   isDone = checks.every((check) => check.isDone);
-  const done = isDone ? '<p class="all-done">Done.</p>' : '';
-  const text = `<p><b>Your task:</b> ${escaped(step.task.says)}</p>${checksText(checks)}${done}`;
+  const done = isDone ? ' <b>Done.</b>' : '';
+  const text = `<p><b>Your task:</b> ${escaped(step.task.says)}${done}</p>${checksText(checks)}`;
   if ($('lesson-task').innerHTML !== text) $('lesson-task').innerHTML = text;
   $('lesson').classList.toggle('done', isDone);
 }
@@ -141,6 +141,8 @@ function guess(chosen) {
   guesses[number] = chosen;
   drawGuess();
   drawTask();
+  $('lesson-guess').lastElementChild.scrollIntoView({ block: 'nearest' }); // what is told then, within the lesson's box
+  goToPart(false); // which has grown
   $('lesson-guess').focus({ preventScroll: true });
 }
 

@@ -42,7 +42,7 @@ function drawLegend() {
   const says = isUsual ? [' seen by everyone', ' secret, underlined'] : [];
   const parts = names.map((name, k) => `<span><b class="${labelClass(k)}">${escaped(name)}</b>${says[k] ?? ''}</span>`);
   if (shown.verdict?.kind === 'accepted') {
-    parts.push('<span><i>in italics: left out, and the least that serve</i></span>');
+    parts.push('<span><i>in italics: left-out labels, the least that serve</i></span>');
   }
   if (mitigatesNow().length) parts.push('<span><span class="swatch tint-swatch"></span>inside a mitigate</span>');
   if (shown.verdict?.refusals?.some((fault) => fault.place)) {

@@ -129,7 +129,8 @@ export function heldTable({ caches, layout }, { code }, labels) {
   const head = names.map((name) => `<th scope="col">${names.length === 1 && labels.names.length > 1 ? 'for all labels'
     : labelText(name, labels)}</th>`).join('');
   const rows = places.map((place) => `<tr><th scope="row">${BANKS[place]}</th>${
-    names.map((name) => `<td>${partText(caches, place, name, code, layout.names)}</td>`).join('')}</tr>`);
+    names.map((name) => `<td${/code/i.test(place) ? ' class="keep"' : ''}>${
+      partText(caches, place, name, code, layout.names)}</td>`).join('')}</tr>`);
   return `<table class="held"><thead><tr><th scope="col">What is held</th>${head}</tr></thead>`
     + `<tbody>${rows.join('')}</tbody></table>`;
 }

@@ -16,8 +16,8 @@ function textAt(events, places) {
     next = place + 1;
   }
   if (next < events.length) parts.push('…');
-  const text = parts.filter((part, k) => part !== 'no more' || k === parts.length - 1).join(' ');
-  return parts.includes('…') ? `${text} (${events.length} in all)` : text.replace(/ no more$/, '');
+  const text = parts.filter((part, k) => part !== 'no more' || k === parts.length - 1).join(', ');
+  return parts.includes('…') ? `${text} (${events.length} in all)` : text.replace(/, no more$/, '');
 }
 
 /** The words for each run: its first assignments that are seen, and further ones where only those tell runs apart. */

@@ -32,7 +32,10 @@ export function drawStarts() {
   if (box.hidden) return;
   known = programNow()?.variables ?? known;
   const about = { variables: known, labels: shown.labels, observer: state.observer };
-  if (!box.contains(document.activeElement)) box.innerHTML = space ? spaceTable(space, about) : tableText(read, about);
+  // a cell that says nothing that can stand there stays as it was written
+  if (!faults.cell && !box.contains(document.activeElement)) {
+    box.innerHTML = space ? spaceTable(space, about) : tableText(read, about);
+  }
   if (space) return;
   const adders = addersText(read, about);
   if ($('starts-add').dataset.drawn !== adders && !$('starts-add').contains(document.activeElement)) {

@@ -121,9 +121,11 @@ export function sweepPicture(points, { width, high = 320, current = null, most =
   for (let k = 0; k <= doublings + 0.001; k += step) {
     out.push(`<text x="${at(x(2 ** k))}" y="${high - BOTTOM + 17}" text-anchor="middle">${spaced(2 ** k)}</text>`);
   }
-  const isLeft = current === null || x(current) > width / 2; // opposite of where the present one is named
+  // the axis is named where there is more room beside the name of the present one
+  const isLeft = current === null || x(current) > (LEFT + width - RIGHT) / 2;
   const [nameAt, anchor] = isLeft ? [LEFT, 'start'] : [width - RIGHT, 'end'];
-  out.push(`<text x="${nameAt}" y="${high - 8}" text-anchor="${anchor}">first prediction, in cycles</text>`);
+  const name = width < NARROW ? 'first prediction' : 'first prediction, in cycles';
+  out.push(`<text x="${nameAt}" y="${high - 8}" text-anchor="${anchor}">${name}</text>`);
   out.push(`<text x="8" y="${TOP - 10}">longest run, in cycles</text></g>`);
   if (current !== null && current <= greatest) {
     out.push(`<path d="M${at(x(current))} ${TOP}V${TOP + tall}" stroke="var(--ink)" stroke-dasharray="3 3"`

@@ -148,10 +148,7 @@ function pointsText(count, current, unfinished) {
 export function drawSweep() {
   const can = canSweep(), { points } = shown;
   const isOld = answeredOf.runs && !isFresh('runs', answeredOf.runs, state); // then it stays where it is
-  if (!isOld) {
-    $('sweep').hidden = !can && points.length === 0;
-    $('starts').classList.toggle('alone', $('sweep').hidden && $('leak').hidden);
-  }
+  if (!isOld) $('sweep').hidden = !can && points.length === 0;
   if ($('sweep').hidden) return;
   drawChoice();
   if ($('sweep').getAttribute('aria-busy') !== 'true') $('sweep-go').textContent = goText();

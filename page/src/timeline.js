@@ -16,10 +16,10 @@ export function lastCycle(runs) {
   return Math.max(1, ...runs.map((run) => run.end));
 }
 
-/** The view of all cycles of runs: from, to. */
+/** The view of all cycles of runs: from, to. Behind the last one there is room for what is written beside it. */
 export function wholeView(runs) {
   const last = lastCycle(runs);
-  return [0, last + Math.max(4, last / 7)];
+  return [0, last + Math.max(4, last / 3)];
 }
 
 /** A view made narrower or wider about a cycle, within the whole one. */

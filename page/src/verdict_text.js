@@ -26,7 +26,7 @@ export function verdictText(verdict, labels) {
   switch (verdict.kind) {
     case 'accepted':
       return `${term('accepted', 'Accepted')} <span>${counted(verdict.commands, 'command')},`
-        + ` ${counted(verdict.mitigates, 'mitigate')}</span>`;
+        + ` ${verdict.mitigates === 0 ? 'no mitigate' : counted(verdict.mitigates, 'mitigate')}</span>`;
     case 'refused':
       return `${term('refused', 'Refused')} ${list((refusal, k) => {
         return `by ${ruleText(refusal, k)} at ${placeButton(refusal.place)}: ${flow(refusal)}`;

@@ -65,8 +65,8 @@ test('what the choices say, and why no other one matters', () => {
   const text = (current) => plain(choicesText(choices, current));
   assert.equal(text(269), 'With 269 nothing is told, and all runs end at 310. The 269 that stands there is one of'
     + ' these. No other one does better: each that is not here, from 1 to 1 099 511 627 776, and with which all runs'
-    + ' halt in time, tells at least as much as one of these, and its runs end no earlier on the mean. From a choice to'
-    + ' the end of its row no miss count changes.');
+    + ' halt in time, tells at least as much as one of these, and its runs end no earlier on the mean. All predictions'
+    + ' of one row miss equally often.');
   assert.match(text(512), / The 512 that stands there misses as 269 does, and the runs end no earlier\. No other /);
   assert.match(text(64), / The 64 that stands there is bettered by one of these\. No other /);
   assert.match(text(null), / all runs end at 310\. No other /);

@@ -67,7 +67,7 @@ test('a bar a class, as long as it has runs, in the colour and shape of the clas
   // a square of 2 * 0.9 * 4.4 about 6, 6
   assert.match(rows[1], /<polygon points="2.04,2.04 9.96,2.04 9.96,9.96 2.04,9.96" fill="var\(--c1\)"/);
   assert.deepEqual(rows.map(plain), [
-    '|1|1 run|run 1|done = 1 @168|', '|2|6 runs|run 2|done = 1 @296|', '|3|2 runs|run 8|a[1] = -7 @20 done = 1 @552|',
+    '|1|1 run|run 1|done = 1 @168|', '|2|6 runs|run 2|done = 1 @296|', '|3|2 runs|run 8|a[1] = -7 @20, done = 1 @552|',
   ]);
   assert.match(rows[2], /data-first="8" aria-label="Look at run 8, the first one of class 3"/);
 });
@@ -121,9 +121,9 @@ test('the chances of the first guess, and how many it takes', () => {
   assert.match(text, /\|1 of 9\|right at first, before the run is seen\|/);
   assert.match(text, /\|3 of 9\|right at first, after it\|/);
   // 50/18 = 2.777
-  assert.match(text, /On the average it takes 5 guesses before, and 50\/18, from 2\.77 to 2\.78, after\./);
+  assert.match(text, /Guesses needed on the average: 5 before, and 50\/18, from 2\.77 to 2\.78, after\./);
   assert.match(plain(leakNumbers({ ...leak, guesses: { before: [5, 2], after: [10, 8] } })),
-    /takes 2\.5 guesses before, and 1\.25 after\./);
+    /average: 2\.5 before, and 1\.25 after\./);
 });
 
 test('entropies are intervals, as they are told', () => {

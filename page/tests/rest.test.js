@@ -6,7 +6,7 @@ import {
   commandAt, faultRange, labelsOf, leftOutLabels, linesInside, stepsByLine, writtenLabels,
 } from '../src/decorations.js';
 import { readProgram } from '../src/language.js';
-import { difference, indentAfter } from '../src/editor.js';
+import { difference, indentAfter, stepsText } from '../src/editor.js';
 import { linkOf, stateOf } from '../src/link.js';
 import { modeOf } from '../src/mode.js';
 import { readSpace } from '../src/space.js';
@@ -110,6 +110,10 @@ test('the change of a text is the part that differs', () => {
   assert.deepEqual(difference('same', 'same'), { from: 4, to: 4, put: '' });
   assert.equal(indentAfter('  while 1 do {'), '\n    ');
   assert.equal(indentAfter('\tskip;'), '\n\t');
+});
+
+test('the steps of one line stand beside it in few signs', () => {
+  assert.deepEqual([[3], [2, 3], [2, 3, 4], [2, 4], [2, 4, 5]].map(stepsText), ['3', '2–3', '2–4', '2,4', '2 …']);
 });
 
 test('written labels are found in a text that is no program', () => {

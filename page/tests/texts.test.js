@@ -172,14 +172,14 @@ test('what is seen of runs reads alike exactly where it is', () => {
   assert.deepEqual(
     seenTexts(runsOf([1, first, second, ['l', 3, 9]], [2, first, second, ['l', 3, 11]],
       [1, first, second, ['l', 3, 9]])),
-    ['l = 1 @5 l = 2 @6 l = 3 @9', 'l = 1 @5 l = 2 @6 l = 3 @11', 'l = 1 @5 l = 2 @6 l = 3 @9'],
+    ['l = 1 @5, l = 2 @6, l = 3 @9', 'l = 1 @5, l = 2 @6, l = 3 @11', 'l = 1 @5, l = 2 @6, l = 3 @9'],
   );
   const long = (at) => [first, second, ['l', 3, 7], ['l', 4, 8], ['l', 5, at], ['l', 6, 99]];
   assert.deepEqual(
     seenTexts(runsOf([1, ...long(20)], [2, ...long(30)])),
-    ['l = 1 @5 l = 2 @6 … l = 5 @20 … (6 in all)', 'l = 1 @5 l = 2 @6 … l = 5 @30 … (6 in all)'],
+    ['l = 1 @5, l = 2 @6, …, l = 5 @20, … (6 in all)', 'l = 1 @5, l = 2 @6, …, l = 5 @30, … (6 in all)'],
   );
-  assert.deepEqual(seenTexts(runsOf([1, first, second, ['l', 3, 7]])), ['l = 1 @5 l = 2 @6 … (3 in all)']);
+  assert.deepEqual(seenTexts(runsOf([1, first, second, ['l', 3, 7]])), ['l = 1 @5, l = 2 @6, … (3 in all)']);
   const shorter = seenTexts(runsOf([1, first, second], [2, first, second, ['l', 3, 7]]));
   assert.equal(new Set(shorter).size, 2, shorter.join(' | '));
 });

@@ -2,6 +2,7 @@
 import time
 
 from driving import holds, same
+from trials.answers import MANY
 from trials.basics import sweep_now
 
 NAME = """
@@ -28,6 +29,7 @@ def fold(page):
         holds(0 <= left < right <= 1366 and 0 <= top < bottom <= 768, f"{name}: {left} {top} {right} {bottom}")
     holds(boxes[".editor"][2] <= boxes["#lanes svg"][0], "the program stands beside the picture")
     page.set("#budget", str(2**40))
+    same(page.count(".lane text[font-weight][text-anchor='end']"), 0, "what is written before its mark, over the bars")
     fits = "const box = document.getElementById('budget'); return box.scrollWidth <= box.clientWidth"
     holds(page.run(fits), "the greatest number of cycles has room")
     page.idle()
@@ -54,15 +56,14 @@ def type_scale(page):
 
 
 def changed_since(page):
-    """What is said of an example says first that it was changed since, where there is no room for the whole of it."""
+    """What is said of each example has room, also once it says that it was changed since."""
     page.browser.resize(1366, 768)
-    page.choose(0)
     shown = "const says = document.getElementById('example-says'); return [says.textContent, says.scrollWidth > says.clientWidth]"
-    whole, is_cut = page.run(shown)
-    holds(is_cut, "the sentence has no room")
-    page.caret("done := 1")
-    page.browser.type("0")
-    same(page.run(shown), ["Changed since: " + whole, True], "what it says then")
+    for number in range(len(page.examples())):
+        page.choose(number)
+        whole, is_cut = page.run(shown)
+        page.write_now(page.program() + " ")
+        same([is_cut, *page.run(shown)], [False, "Changed since: " + whole, False], "whether it is cut off, and what it says then")
     same(page.run("return document.getElementById('example-says').title"), "Changed since: " + whole, "and beside the pointer")
     page.browser.resize(1360, 900)
 
@@ -173,6 +174,28 @@ def narrow(page):
         page.choose(number)
         wide, inner = page.run("return [document.documentElement.scrollWidth, innerWidth]")
         holds(wide <= inner, f"{page.examples()[number]}: {wide} wide in {inner}")
+    menu = "const box = document.querySelector('.menu-list').getBoundingClientRect(); return [box.left, innerWidth - box.right]"
+    page.run("document.getElementById('file-menu').open = true")
+    holds(min(page.run(menu)) >= 0, f"the menu is in the window: {page.run(menu)}")
+    page.run("document.getElementById('file-menu').open = false")
+    page.choose(0)
+    place = "return document.getElementById('program').getBoundingClientRect().top + scrollY"
+    before = page.run(place)
+    page.write(page.program() + "$")
+    same(page.run(place), before, "where the program stands with a wrong letter")
+    page.choose(0)
+    sweep_now(page)
+    titles = page.run(
+        "return [...document.querySelectorAll('#sweep-picture text')].map((part) => [part.textContent, part.getBoundingClientRect()])"
+        ".filter(([text]) => /^(now|first)/.test(text)).map(([text, box]) => [box.left, box.right]).sort(([a], [b]) => a - b)"
+    )
+    holds(len(titles) == 2 and titles[0][1] < titles[1][0], f"the words below the axis stand apart: {titles}")
+    page.write(MANY, "[[run]]\nmemory = { h = 1 }\n")
+    boxes = page.run(
+        "return [...document.querySelectorAll('#audit .number-of')].map((part) => part.getBoundingClientRect().right"
+        " - part.querySelector('b').getBoundingClientRect().left - part.querySelector('b').scrollWidth)"
+    )
+    holds(len(boxes) == 4 and min(boxes) >= -1, f"no number goes beyond its place: {boxes}")
     page.browser.resize(1360, 900)
 
 
