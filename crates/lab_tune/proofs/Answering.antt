@@ -26,7 +26,8 @@ use Rattle.lab_tune.specs.Complete.{CanTune, CanBeTuned}
 abbrev pub tune_next : Environment → ℕ → ℕ → Option ℕ → Syntax → LabelledProgram → Option Label → Code → List StartValue → Status → List ℕ → Type 0
 tune_next e t mark bits p q o code ss = HasTune e t mark bits q o ss
 
-pub audit_stop : (e : Environment) (t mark : ℕ) (bits : Option ℕ) (q : LabelledProgram) (l : Label) (ss : List StartValue) (s : Stop) → IsStop (AuditStops e t q l ss) s
+pub audit_stop : (e : Environment) (t mark : ℕ) (bits : Option ℕ) (q : LabelledProgram) (l : Label) (ss : List StartValue) (s : Stop)
+    → IsStop (AuditStops e t q l ss) s
     → IsStop (HasTune e t mark bits q (Some l) ss) s
 audit_stop e t mark bits q l ss s h = broke_map (AuditStops e t q l ss) (HasTune e t mark bits q (Some l) ss) (status_of s) (stop_text s) (λ k. inl k) h
 

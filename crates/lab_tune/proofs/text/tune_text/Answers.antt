@@ -12,7 +12,8 @@ pub returns-in-Err-clause-stop : goal.returns-in-Err-clause-stop
 returns-in-Err-clause-stop g c =
     prepare_stops (λ (name : List ℕ). Rose (g.S.Shelf.faults c.args.shelf.now name) (g.S.Shelf.faults c.prepare.new.shelf name))
     (g.S.Shelf.content c.args.shelf.now)
-    c.args.file.now c.args.name.now _ (g.S.Shelf.content c.args.shelf.now c.args.starts.now) (tune_next c.args.setting.env c.args.setting.budget c.args.mark c.args.bits)
+    c.args.file.now c.args.name.now _ (g.S.Shelf.content c.args.shelf.now c.args.starts.now)
+    (tune_next c.args.setting.env c.args.setting.budget c.args.mark c.args.bits)
     c.in-Err.stop c.in-Err.ensures.stop
 
 pub returns-in-Ok-prepared_text-clause-text : goal.returns-in-Ok-prepared_text-clause-text
@@ -22,7 +23,8 @@ returns-in-Ok-prepared_text-clause-text g c =
     (g.S.Shelf.content c.args.shelf.now)
     c.args.file.now c.args.name.now (Rose (g.S.Shelf.faults c.args.shelf.now c.args.starts.now) (g.S.Shelf.faults c.prepare.new.shelf c.args.starts.now))
     (g.S.Shelf.content c.args.shelf.now c.args.starts.now)
-    p.compiled.typed.labelled p.observer p.compiled.image (map seen p.starts.items) (tune_next c.args.setting.env c.args.setting.budget c.args.mark c.args.bits) Done
+    p.compiled.typed.labelled p.observer p.compiled.image (map seen p.starts.items)
+    (tune_next c.args.setting.env c.args.setting.budget c.args.mark c.args.bits) Done
     c.in-Ok-prepared_text.text.items c.in-Ok.ensures.ok c.in-Ok-prepared_text.ensures.text
 
 pub returns-clause-stop : goal.returns-clause-stop
@@ -32,7 +34,8 @@ returns-clause-stop g c =
     (g.S.Shelf.content c.args.shelf.now)
     c.args.file.now c.args.name.now (Rose (g.S.Shelf.faults c.args.shelf.now c.args.starts.now) (g.S.Shelf.faults c.prepare.new.shelf c.args.starts.now))
     (g.S.Shelf.content c.args.shelf.now c.args.starts.now)
-    p.compiled.typed.labelled p.observer p.compiled.image (map seen p.starts.items) (tune_next c.args.setting.env c.args.setting.budget c.args.mark c.args.bits)
+    p.compiled.typed.labelled p.observer p.compiled.image (map seen p.starts.items)
+    (tune_next c.args.setting.env c.args.setting.budget c.args.mark c.args.bits)
     c.in-Err-prepared_text.stop c.in-Ok.ensures.ok c.in-Err-prepared_text.ensures.stop
 
 pub returns-clause-log : goal.returns-clause-log

@@ -28,7 +28,8 @@ returns-clause-answered g c =
     ends_finish (g.W.Sink.taken c.args.out.now) (g.W.Sink.taken c.tell.new.out) Nothing
     (IsTuneAnswer rises content c.args.file.now c.args.starts.now c.args.observer.now c.args.setting.env c.args.setting.budget c.args.mark c.args.bits)
     (told_status r) (lab_text (told_status r) (told_text r)) c.tell.result
-    (result_tells_in_lab (Tunes rises content c.args.file.now c.args.starts.now c.args.observer.now c.args.setting.env c.args.setting.budget c.args.mark c.args.bits) r
+    (result_tells_in_lab (Tunes rises content c.args.file.now c.args.starts.now c.args.observer.now c.args.setting.env c.args.setting.budget
+    c.args.mark c.args.bits) r
     c.tune_text-text.ensures.text c.tune_text-text.ensures.stop) c.tell.ensures.told c.tell.ensures.prefix
 
 pub returns-clause-complete : goal.returns-clause-complete
@@ -41,7 +42,8 @@ returns-clause-complete g c =
     (ends_finish (g.W.Sink.taken c.args.out.now) (g.W.Sink.taken c.tell.new.out) Nothing
     (IsTuneAnswer rises content c.args.file.now c.args.starts.now c.args.observer.now c.args.setting.env c.args.setting.budget c.args.mark c.args.bits)
     (told_status r) (lab_text (told_status r) (told_text r)) c.tell.result
-    (result_tells_in_lab (Tunes rises content c.args.file.now c.args.starts.now c.args.observer.now c.args.setting.env c.args.setting.budget c.args.mark c.args.bits) r
+    (result_tells_in_lab (Tunes rises content c.args.file.now c.args.starts.now c.args.observer.now c.args.setting.env c.args.setting.budget
+    c.args.mark c.args.bits) r
     c.tune_text-text.ensures.text c.tune_text-text.ensures.stop) c.tell.ensures.told c.tell.ensures.prefix)
     c.tell.ensures.fault
 
