@@ -18,13 +18,16 @@ module _ (e : Environment) (t : ℕ) (q : LabelledProgram) (o mark bits : ℕ) (
   pub one_told : (i : Interval) (is : List Interval) → IsCheapest xs (2 ^ bits) i → is ≡ i ∷ [] → AreTold e t q o mark (Some bits) ss best is
   one_told i is h one = (
     i,
-    (cheapest_few (environment e q.program.order) history_made t (lowered q) mark (relevant_in q o) ss (2 ^ bits) best are i
-        (subst (λ z. IsCheapest z (2 ^ bits) i) same h), one),
+    (
+      cheapest_few (environment e q.program.order) history_made t (lowered q) mark (relevant_in q o) ss (2 ^ bits) best are i
+          (subst (λ z. IsCheapest z (2 ^ bits) i) same h),
+      one,
+    ),
   )
 
   pub none_told : (x : List ℕ) → AllTellMore xs (2 ^ bits) → x ≡ none_line mark bits → FewStops e t q o mark (Some bits) ss status.Refused x
   none_told x h line = (
     none_tells (environment e q.program.order) history_made t (lowered q) mark (relevant_in q o) ss (2 ^ bits) best are
-    (subst (λ z. AllTellMore z (2 ^ bits)) same h),
+        (subst (λ z. AllTellMore z (2 ^ bits)) same h),
     line,
   )
