@@ -38,7 +38,7 @@ module _ {E : Type 0} (v : Env E) (serves : Order → E → Type 0) (p : Labelle
   first_begins (s ∷ ss) h = begins s h.0
 
   -- the report of runs that are kept
-  report_of : (ss : List (Start E)) (k : Kept) → AuditReport
+  abbrev report_of : (ss : List (Start E)) (k : Kept) → AuditReport
   report_of ss k = record {
     runs = length ss;
     mitigations = begun_first v p o t ss;
