@@ -80,7 +80,7 @@ found_same is most i x (Some j) lt at h b = record {
       elim (cases_lt x.cost j.cost) [
         | inl less ↦ absurd (both_ways (leb x.things most && ltb x.cost j.cost) b
             (and_from (leb x.things most) (ltb x.cost j.cost) (le-leb x.things most few) (lt-ltb x.cost j.cost less)))
-        | inr no ↦ no
+        | inr dear ↦ dear
       ]);
 }
 

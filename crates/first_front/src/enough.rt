@@ -5,24 +5,24 @@ ghost use Rattle.first_front.specs.Enough.{AllTellMore, IsCheapest, is_cheaper};
 
 use crate::interval::Interval;
 
-impl Interval {
-    // Whether it tells at most 2^bits things.
-    fn is_few(&self, bits: u32) -> bool
-        ensures { result ≡ leb self.now.things (2 ^ bits) }
-    {
-        if bits >= 64 {
-            return true;
-        }
-        self.things as u128 <= 2u128.pow(bits)
+// Whether a number of things is at most 2^bits.
+fn is_few(things: usize, bits: u32) -> bool
+    ensures { result ≡ leb things (2 ^ bits) }
+{
+    if bits >= 64 {
+        return true;
     }
+    things as u128 <= 2u128.pow(bits)
+}
 
+impl Interval {
     // Whether it tells at most 2^bits things, and costs less than what was found before, if something was.
     fn is_cheaper(&self, bits: u32, found: Option<Interval>) -> bool
         ensures { result ≡ is_cheaper self.now (2 ^ bits) found }
     {
         match found {
-            None => self.is_few(bits),
-            Some(known) => self.is_few(bits) && self.cost < known.cost,
+            None => is_few(self.things, bits),
+            Some(known) => is_few(self.things, bits) && self.cost < known.cost,
         }
     }
 }
