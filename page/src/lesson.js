@@ -163,7 +163,8 @@ const cacheSteps = (files) => {
         right: 1,
         tells: 'It is refused. Both look-ups are in the part of H, so the second one may find what the first one'
           + ' left, and how'
-          + ' long it takes is a secret. The steps tell the way: place is H, so how long an assignment takes counts as H.',
+          + ' long it takes is a secret. The steps tell the way: place is H, so how long an assignment takes counts as'
+          + ' H.',
       },
       program: files['sbox/open.mit'], starts: '[[run]]\nmemory = { place = [3, 9] }\n', look: 'program',
     },
