@@ -4,12 +4,12 @@
 # The options of a command.
 _lab_options() {
     case $1 in
-        why) echo "--of" ;;
-        seen) echo "--observer --env --machine --budget --refused" ;;
+        why) echo "--of --observer --env --machine --budget" ;;
+        seen | leak) echo "--observer --env --machine --budget --refused" ;;
         timeline) echo "--env --machine --budget --observer --refused" ;;
-        bound | leak) echo "--observer --env --machine --budget" ;;
+        bound) echo "--observer --env --machine --budget" ;;
         steady) echo "--observer --parts --constant --whole" ;;
-        tune) echo "--observer --env --machine --budget --of" ;;
+        tune) echo "--observer --env --machine --budget --of --bits" ;;
         check) echo "--json" ;;
     esac
 }
@@ -62,7 +62,7 @@ _lab() {
             done
             return
             ;;
-        --budget | --constant) return ;;
+        --budget | --constant | --bits) return ;;
     esac
     case $word in
         -*) mapfile -t COMPREPLY < <(compgen -W "$(_lab_options "$command")" -- "$word") ;;

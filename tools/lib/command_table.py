@@ -1,4 +1,5 @@
 """The commands of mitigate and the questions of lab, as docs/data/commands.toml has them, for the scripts beside this one."""
+import collections
 import dataclasses
 import functools
 import pathlib
@@ -37,13 +38,24 @@ class Command:
     says: str
     tells: str
     without: dict = dataclasses.field(default_factory=dict)
+    # Another form.
+    also: str = ""
+
+    def forms(self):
+        return [self.form, *([self.also] if self.also else [])]
+
+    def parts_of(self, form):
+        """The parts of a form, in its order."""
+        found = list(PART.finditer(form))
+        if " ".join(part[0] for part in found) != form or any(bool(part["open"]) != bool(part["close"]) for part in found):
+            raise ValueError(f"{TABLE.name}: {self.name}: no form: {form}")
+        return [Part(part["word"] or "", part["option"] or "", part["value"] or "", not part["open"]) for part in found]
 
     def parts(self):
-        """The parts of the form, in its order."""
-        found = list(PART.finditer(self.form))
-        if " ".join(part[0] for part in found) != self.form or any(bool(part["open"]) != bool(part["close"]) for part in found):
-            raise ValueError(f"{TABLE.name}: {self.name}: no form: {self.form}")
-        return [Part(part["word"] or "", part["option"] or "", part["value"] or "", not part["open"]) for part in found]
+        """The parts of all forms, each once, in their order: one is needed where each form needs it."""
+        every = [part for form in self.forms() for part in self.parts_of(form)]
+        needed = collections.Counter(part.key for part in every if part.needed)
+        return [dataclasses.replace(part, needed=needed[key] == len(self.forms())) for key, part in {one.key: one for one in every}.items()]
 
     def words(self):
         return [part for part in self.parts() if part.word]
@@ -76,12 +88,17 @@ def choices(option):
 
 
 def usage(program):
-    """The usage text of a program, without the line feed at its end."""
-    return "usage: " + "\n       ".join(form_of(command) for command in commands(program))
+    """The usage text of a program, without the line feed at its end: the first form of each command."""
+    return usage_of([dataclasses.replace(command, also="") for command in commands(program)])
 
 
-def form_of(command):
-    """A command's form as usage texts have it, with its program and its name."""
+def usage_of(found):
+    """The forms of commands as a usage text has them."""
+    return "usage: " + "\n       ".join(form for command in found for form in forms_of(command))
+
+
+def forms_of(command):
+    """A command's forms as usage texts have them, each with its program and its name."""
 
     def told(part):
         key = key_of(part["option"], part["value"] or "")
@@ -89,7 +106,7 @@ def form_of(command):
         value = "|".join(choices(key)) if option.get("choice") else option.get("in_usage", part["value"])
         return part[0] if not part["value"] else f"{part['open']}--{part['option']} {value}{part['close']}"
 
-    return f"{command.program} {command.name} {PART.sub(told, command.form)}".rstrip()
+    return [f"{command.program} {command.name} {PART.sub(told, form)}".rstrip() for form in command.forms()]
 
 
 def line_of(command, part):
@@ -107,6 +124,4 @@ def help_text(name=""):
     if not name:
         return "".join(f"lab {command.name:<9} {command.says}\n" for command in commands("lab"))
     command = next(command for command in commands("lab") if command.name == name)
-    return "".join(
-        line + "\n" for line in [f"usage: {form_of(command)}", command.says, *(line_of(command, part) for part in command.parts())]
-    )
+    return "".join(line + "\n" for line in [usage_of([command]), command.says, *(line_of(command, part) for part in command.parts())])

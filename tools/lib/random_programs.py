@@ -88,9 +88,21 @@ class Maker:
             parts = self.dice.choice([["--parts", self.label()], []])
             yield "lab", ["steady", "p", "--observer", self.label(), *parts, *self.dice.choice([["--whole"], []])]
 
+    def misnamed(self, setting):
+        """Calls in which a word names nothing: a label, maybe a word that is one with another letter, or an operator."""
+        wrong = self.dice.choice(["zz", "l", "LH", self.label() + "x", self.label().lower()])
+        starts = self.dice.choice(["why", "seen", "timeline", "bound", "leak", "tune"])
+        yield "lab", [starts, "p", "s", "--observer", wrong, *setting]
+        given = self.dice.choice([["--observer", wrong], ["--observer", self.label(), "--parts", wrong]])
+        yield "lab", ["steady", "p", *given]
+        names = self.dice.choice(["add,none", "add,,compare", "mul", "compare,add", "none"])
+        yield "lab", ["steady", "p", "--observer", self.label(), "--constant", names]
+        yield "mitigate", ["audit", "p", "s", "--observer", wrong, *setting]
+
     def mark(self):
-        """Which mitigate `tune` is asked about."""
-        return self.dice.choice([[], ["--of", "#0"], ["--of", "#1"], ["--of", "#2"]])
+        """Which mitigate `tune` is asked about, and how many bits it may tell."""
+        of = self.dice.choice([[], ["--of", "#0"], ["--of", "#1"], ["--of", "#2"]])
+        return [*of, *self.dice.choice([[], [], ["--bits", "0"], ["--bits", "1"], ["--bits", "2"]])]
 
     def calls(self):
         """Each call's program with its words."""
@@ -102,11 +114,12 @@ class Maker:
         yield from (("mitigate", [word, "p", "s", *observer, *setting]) for word in ("audit", "cut"))
         yield from self.reasons()
         yield from self.verdicts()
-        yield from (("lab", [word, "p", "s", *observer, *setting]) for word in ("seen", "bound", "leak"))
+        yield from self.misnamed(setting)
+        yield from (("lab", [word, "p", "s", *observer, *setting]) for word in ("why", "seen", "bound", "leak"))
         yield "lab", ["timeline", "p", "s", *setting, *self.dice.choice([observer, []])]
         yield "lab", ["tune", "p", "s", *observer, *setting, *self.mark()]
         on_machine = ["--machine", "m", *setting[2:]]
-        yield from (("lab", [word, "p", "s", *observer, *on_machine]) for word in ("seen", "bound", "leak"))
+        yield from (("lab", [word, "p", "s", *observer, *on_machine]) for word in ("why", "seen", "bound", "leak"))
         yield "lab", ["timeline", "p", "s", *on_machine]
         yield "lab", ["tune", "p", "s", *observer, *on_machine, *self.mark()]
 

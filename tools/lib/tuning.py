@@ -89,8 +89,18 @@ def intervals(runs, levels, relevant, mark, run_with):
         first = last + 1
 
 
-def lines(found, limit, runs):
-    """The lines of the intervals that begin with the best first predictions."""
+def best(found, limit):
+    """The intervals that begin with the best first predictions."""
     halting = [one for one in found if one.latest <= limit]
-    best = [one for one in halting if not any(other.beats(one) for other in halting)]
-    return "".join(f"first {one.first} to {one.last} told {one.told} mean {one.cost // runs} greatest {one.latest}\n" for one in best)
+    return [one for one in halting if not any(other.beats(one) for other in halting)]
+
+
+def enough(found, limit, most):
+    """The interval that begins with the cheapest of all first predictions that tell at most so many things; none where none does."""
+    few = [one for one in found if one.latest <= limit and one.told <= most]
+    return sorted(few, key=lambda one: (one.cost, one.told, one.first))[:1]
+
+
+def lines(told, runs):
+    """The lines of intervals."""
+    return "".join(f"first {one.first} to {one.last} told {one.told} mean {one.cost // runs} greatest {one.latest}\n" for one in told)

@@ -1,6 +1,5 @@
 -- Classes that tell and cost the same have the same front.
-use Rattle.std.proofs.Common.{◌≡◌, ℕ, ◌+◌, ◌≤◌, ◌<◌, List, length, get_or, arith, sym, ap, ◌∙◌}
-use Rattle.std.specs.List.{All}
+use Rattle.std.proofs.Common.{◌≡◌, ℕ, List, get_or, arith, sym, ◌∙◌}
 use Rattle.first_front.specs.declared.class.Class.{Class}
 use Rattle.first_front.specs.declared.class.Varied.{Varied}
 use Rattle.first_front.specs.declared.interval.Interval.{Interval}

@@ -1,5 +1,5 @@
 -- Intervals one after another.
-use Rattle.std.proofs.Common.{◌≡◌, ℕ, ◌+◌, ◌≤◌, ◌<◌, List, [], ◌∷◌, ◌++◌, arith, refl, subst, inl, inr, sym, Bool, ◌∙◌}
+use Rattle.std.proofs.Common.{◌≡◌, ℕ, ◌+◌, ◌≤◌, ◌<◌, List, [], ◌∷◌, ◌++◌, arith, refl, subst, inl, inr, sym, Bool}
 use Rattle.first_front.specs.declared.class.Class.{Class}
 use Rattle.first_front.specs.declared.class.Varied.{Varied}
 use Rattle.first_front.specs.declared.interval.Interval.{Interval}

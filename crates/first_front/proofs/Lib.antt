@@ -6,3 +6,5 @@ pub mod Covering
 pub mod Fronting
 pub mod Single
 pub mod Alike
+pub mod Cheapest
+pub mod Sufficing

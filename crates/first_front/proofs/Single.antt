@@ -1,13 +1,12 @@
 -- There is one front.
 use Rattle.std.proofs.Common.{◌≡◌, ℕ, zero, suc, ◌+◌, ◌≤◌, ◌<◌, List, [], ◌∷◌, map, length, get_or, arith, ap, sym, ◌∙◌, refl, inl, inr, ◌⊎◌, subst}
-use Rattle.std.specs.List.{All, IsAmong}
+use Rattle.std.specs.List.{All}
 use Rattle.std.proofs.lemmas.Bool.{cases_lt}
 use Rattle.first_front.specs.declared.class.Class.{Class}
 use Rattle.first_front.specs.declared.class.Varied.{Varied}
 use Rattle.first_front.specs.declared.interval.Interval.{Interval}
 use Rattle.first_front.specs.Intervals.{IsInterval, IsLast}
 use Rattle.first_front.specs.Front.{AscendFrom, BeginsAt, IsFront, OneFront}
-use Rattle.first_front.proofs.Members.{In}
 
 -- one of them begins there
 abbrev Begins : ℕ → List Interval → Type 0
@@ -54,7 +53,7 @@ one_last v cs first a b h k =
 abbrev made : ℕ → ℕ → ℕ → ℕ → ℕ → Interval
 made first last things cost latest = record { first = first; last = last; things = things; cost = cost; latest = latest }
 
-one_interval : (v : Varied) (cs : List Class) (i j : Interval) → IsInterval v cs i → IsInterval v cs j → i.first ≡ j.first → i ≡ j
+pub one_interval : (v : Varied) (cs : List Class) (i j : Interval) → IsInterval v cs i → IsInterval v cs j → i.first ≡ j.first → i ≡ j
 one_interval v cs i j h k e =
     let last : i.last ≡ j.last = one_last v cs j.first i.last j.last (subst (λ z. IsLast v cs z i.last) e h.last) k.last in
     let told : IsInterval v cs (made j.first i.last i.things i.cost i.latest) =

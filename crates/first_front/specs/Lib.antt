@@ -2,3 +2,4 @@ pub mod Told
 pub mod Intervals
 pub mod Front
 pub mod Chosen
+pub mod Enough

@@ -3,6 +3,7 @@
 #![tactic(auto)]
 
 pub mod class;
+pub mod enough;
 pub mod fault;
 pub mod front;
 pub mod interval;

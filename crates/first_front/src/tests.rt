@@ -2,6 +2,7 @@ ghost use Rattle.std.specs.Prelude.{◌≡◌, IfOk};
 ghost use Rattle.std.specs.List.{sum_by};
 
 use crate::class::{Class, Varied};
+use crate::enough::enough;
 use crate::fault::WalkFault;
 use crate::front::front;
 use crate::interval::Interval;
@@ -93,5 +94,14 @@ fn front_by_hand(rt: HostRuntime) -> Result<(), WalkFault> {
     assert!(rt; best.as_slice() == FRONT.as_slice());
     let none = front(rt.alloc(), &classes, &VARIED, 10)?;
     assert!(rt; none.is_empty());
+    Ok(())
+}
+
+#[test]
+fn enough_by_hand(rt: HostRuntime) -> Result<(), WalkFault> {
+    assert!(rt; enough(FRONT.as_slice(), 64) == Some(FRONT[0]));
+    assert!(rt; enough(FRONT.as_slice(), 1) == Some(FRONT[0]));
+    assert!(rt; enough(FRONT.as_slice(), 0) == Some(FRONT[1]));
+    assert!(rt; enough(&FRONT[..1], 0).is_none());
     Ok(())
 }

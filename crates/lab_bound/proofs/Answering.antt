@@ -19,12 +19,12 @@ use Rattle.tool_texts.proofs.EndLemmas.{broke_map, ends_done}
 use Rattle.tool_stages.specs.Content.{Content}
 use Rattle.tool_stages.specs.Goes.{CanBeAudited, OfObserver}
 use Rattle.tool_stages.specs.Envs.{hardware_of, ReportsIn}
-use Rattle.tool_stages.proofs.ChainLemmas.{prepared_done, prepares_no_fault}
 use Rattle.audit_stage.specs.Audited.{AuditStops}
 use Rattle.audit_stage.proofs.Once.{audit_goes}
 use Rattle.machine_stage.specs.Lines.{machine_head}
+use Rattle.lab_runs.proofs.NamedChains.{prepared_done, prepares_no_fault}
 use Rattle.lab_bound.specs.Text.{BoundPut, IsBoundText, SharedPut, IsSharedText, IsOwnText, EndPut, TextPut}
-use Rattle.lab_bound.specs.Answer.{HasBound, HasCounts, TellsBy, Bounds, IsBoundAnswer}
+use Rattle.lab_bound.specs.Answer.{HasBound, HasCounts, TellsBy, IsBoundAnswer}
 use Rattle.lab_bound.specs.Complete.{CanBound}
 
 -- what comes after the stages
@@ -84,7 +84,7 @@ no_fault_in e t q (Some l) ss x (inl h) = h
 no_fault_in e t q (Some l) ss x (inr (r, is, h)) = cc (h.0)
 
 pub bound_no_fault : (Rises : List ℕ → Type 0) (content : Content) (file starts observer : List ℕ) (e : Environment) (t : ℕ) (x : List ℕ)
-    → Bounds Rises content file starts observer e t status.WriteFault x → ⊥
+    → IsBoundAnswer Rises content file starts observer e t status.WriteFault x → ⊥
 bound_no_fault Rises content file starts observer e t x =
     prepares_no_fault Rises content file observer (Rises starts) (content starts) (bound_next e t) x (λ p q o code ss. no_fault_in e t q o ss x)
 
@@ -110,6 +110,6 @@ pub completes : (old new : Option (List ℕ)) (Rises : List ℕ → Type 0) (con
     CanBound content file starts observer e t → (Rises file → ⊥) → (Rises starts → ⊥) → (Rose → ⊥) → (r ≡ status.Done) ⊎ (r ≡ status.Memory)
 completes old new Rises content file starts observer e t r Rose ends write can one other n =
     ends_done old new Nothing (IsBoundAnswer Rises content file starts observer e t) r ends (λ w. n (write w))
-    (λ x h. prepared_done r h.0 Rises content file observer (Rises starts) (content starts)
+    (λ x h. prepared_done r x Rises content file observer (Rises starts) (content starts)
     (λ q o ss. OfObserver (λ l. CanBeAudited e t q l ss) o) (bound_next e t)
-    one can.known other can.known_starts can.goes (λ p q o code ss good next. bound_done e t q o ss r h.0 good next) h.1)
+    one can.known other can.known_starts can.goes (λ p q o code ss good next. bound_done e t q o ss r x good next) h)

@@ -21,8 +21,6 @@ use Rattle.tool_texts.specs.declared.status.Status.{Status}
 use Rattle.tool_texts.specs.Texts.{number_line}
 use Rattle.tool_texts.specs.Reports.{label_line, class_lines, audit_lines}
 use Rattle.tool_stages.proofs.OneLemmas.{Same}
-use Rattle.tool_stages.proofs.ChainLemmas.{prepares_one}
-use Rattle.lab_texts.proofs.LabLemmas.{one_in_lab}
 use Rattle.leak_audit.specs.declared.report.AuditReport.{AuditReport}
 use Rattle.leak_audit.specs.Report.{SameReport}
 use Rattle.part_tlb.specs.declared.bank.Sharing.{Sharing}
@@ -30,9 +28,10 @@ use Rattle.part_tlb.specs.declared.bank.Sharing.TheVariants.{Partitioned, Shared
 use Rattle.tool_stages.specs.Envs.{hardware_of}
 use Rattle.machine_stage.specs.Lines.{machine_head, no_bound_line}
 use Rattle.audit_stage.proofs.Once.{audit_stops, one_audit_stop, same_report, not_fault, same_lines, two_parts}
+use Rattle.lab_runs.proofs.NamedChains.{prepares_one}
 use Rattle.lab_bound.specs.Text.{IsBits, IsSharpText, IsBoundText, IsSharedText, IsOwnText, IsEndText}
 use Rattle.lab_bound.specs.Text.{level_lines, number_text, shared_line, own_line, sharp_of}
-use Rattle.lab_bound.specs.Answer.{HasBound, HasCounts, TellsBy, shown_head, shown_lines, Bounds}
+use Rattle.lab_bound.specs.Answer.{HasBound, HasCounts, TellsBy, shown_head, shown_lines}
 use Rattle.lab_bound.specs.Complete.{HasOneBound}
 use Rattle.lab_bound.proofs.Enough.{same_counts}
 use Rattle.lab_bound.proofs.Answering.{bound_next}
@@ -157,9 +156,8 @@ one_bound e t q (Some l) ss s u x y (inr h) (inr k) =
       h.2.3 ∙ ap (λ z. machine_head e ++ z) told ∙ sym k.2.3,
     )
 
-pub one_bound_in_lab : HasOneBound
-one_bound_in_lab content before now file starts observer e t s u x y known known_starts one other h k =
+pub bound_once : HasOneBound
+bound_once content before now file starts observer e t s u x y known known_starts one other h k =
     let rises = λ (name : List ℕ). Rose (before name) (now name) in
-    one_in_lab (Bounds rises content file starts observer e t) s u x y
-    (λ m n a b. prepares_one s u m n rises content file observer (rises starts) (content starts) (bound_next e t) one known other known_starts
-    (λ p q o code ss. one_bound e t q o ss s u m n) a b) h k
+    prepares_one s u x y rises content file observer (rises starts) (content starts) (bound_next e t) one known other known_starts
+    (λ p q o code ss. one_bound e t q o ss s u x y) h k

@@ -16,10 +16,9 @@ use Rattle.tool_texts.specs.Texts.{number_line}
 use Rattle.tool_texts.specs.Reports.{label_line, class_lines, audit_lines}
 use Rattle.tool_stages.specs.Content.{Content}
 use Rattle.tool_stages.specs.Stages.{Then}
-use Rattle.tool_stages.specs.Begins.{Prepares}
 use Rattle.tool_stages.specs.Envs.{hardware_of, ReportsIn}
 use Rattle.machine_stage.specs.Lines.{machine_head, no_bound_line}
-use Rattle.lab_texts.specs.InLab.{InLab}
+use Rattle.lab_runs.specs.Labels.{NamesAndPrepares}
 use Rattle.audit_stage.specs.Audited.{AuditStops}
 use Rattle.lab_bound.specs.Text.{IsBoundText, IsSharedText, IsOwnText, IsEndText}
 
@@ -55,13 +54,9 @@ HasBound e t q (Some l) ss =
     Then (AuditStops e t q l ss) (ReportsIn e q l.number t ss) (λ r s x.
     (s ≡ status.Done) × (told : List ℕ) × TellsBy (hardware_of e).sharing q l t ss r told × (x ≡ machine_head e ++ told))
 
--- What is told, in the order of its refusals, which are those of an audit. `Rises` tells the names whose counts of
+-- The answer of `bound`, in the order of its refusals, which are those of an audit. `Rises` tells the names whose counts of
 -- faults rose.
-abbrev pub Bounds : (List ℕ → Type 0) → Content → List ℕ → List ℕ → List ℕ → Environment → ℕ → Status → List ℕ → Type 0
-Bounds Rises content file starts observer e t =
-    Prepares Rises content file observer (Rises starts) (content starts) (λ p q o code ss.
-    HasBound e t q o ss)
-
--- the answer of `bound`
 abbrev pub IsBoundAnswer : (List ℕ → Type 0) → Content → List ℕ → List ℕ → List ℕ → Environment → ℕ → Status → List ℕ → Type 0
-IsBoundAnswer Rises content file starts observer e t = InLab (Bounds Rises content file starts observer e t)
+IsBoundAnswer Rises content file starts observer e t =
+    NamesAndPrepares Rises content file observer (Rises starts) (content starts) (λ p q o code ss.
+    HasBound e t q o ss)

@@ -13,11 +13,11 @@ ghost use Rattle.lab_bound.specs.Enough.{NumbersAreEnough};
 
 use crate::laws::sharp_counts_are_enough;
 use crate::text::bound_text;
-use lab_texts::finish::tell;
 use std::alloc::Global;
 use tim_base::shelf::Shelf;
 use tim_base::sink::Sink;
 use tool_stages::setting::Setting;
+use tool_texts::finish::tell;
 use tool_texts::status::Status;
 
 /// Writes what an audit says of the program of a file, of the runs from the starts of another one, and of an observer;

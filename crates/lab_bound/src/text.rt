@@ -12,7 +12,7 @@ ghost use Rattle.tool_stages.specs.Accepted.{is_past_typing, IsAccepted};
 ghost use Rattle.tool_stages.specs.Fetches.{Fetches};
 ghost use Rattle.tool_stages.specs.Envs.{hardware_of, ReportsIn};
 ghost use Rattle.lab_bound.specs.Text.{BoundPut, TextPut};
-ghost use Rattle.lab_bound.specs.Answer.{HasBound, HasCounts, TellsBy, Bounds};
+ghost use Rattle.lab_bound.specs.Answer.{HasBound, HasCounts, TellsBy, IsBoundAnswer};
 
 use crate::end::put_end;
 use crate::lines::{put_levels, put_sharp};
@@ -20,6 +20,7 @@ use crate::own::put_own;
 use crate::shared::put_shared;
 use crate::shown::put_shown;
 use audit_stage::audited::audited;
+use lab_runs::prepared::prepare;
 use label_lattice::label::Label;
 use label_lattice::lattice::Lattice;
 use leak_audit::report::AuditReport;
@@ -31,7 +32,7 @@ use sharp_count::count::{LevelRuns, Runs, sharp_count};
 use std::alloc::{AllocError, Global};
 use text_base::pos::Memory;
 use tim_base::shelf::Shelf;
-use tool_stages::prepared::{Prepared, prepare};
+use tool_stages::prepared::Prepared;
 use tool_stages::setting::Setting;
 use tool_texts::pieces::audits::put_audit;
 use tool_texts::stop::{Stop, no_memory};
@@ -162,10 +163,10 @@ pub fn bound_text<S: Shelf, W: Watch>(
     ensures same { KeepsFiles (S.content shelf.old) (S.content shelf.new) }
     ensures later { NoCountFalls (S.faults shelf.old) (S.faults shelf.new) }
     ensures log { Fetches (file.now ∷ starts.now ∷ []) (S.log shelf.old) (S.log shelf.new) result }
-    ensures text { IfOk result (λ v. Bounds (λ name. Rose (S.faults shelf.old name) (S.faults shelf.new name)) (S.content shelf.old) file.now starts.now
-        name.now setting.env setting.budget status.Done v.items) }
-    ensures stop { IfErr result (IsStop (Bounds (λ name. Rose (S.faults shelf.old name) (S.faults shelf.new name)) (S.content shelf.old) file.now starts.now
-        name.now setting.env setting.budget)) }
+    ensures text { IfOk result (λ v. IsBoundAnswer (λ name. Rose (S.faults shelf.old name) (S.faults shelf.new name)) (S.content shelf.old) file.now
+        starts.now name.now setting.env setting.budget status.Done v.items) }
+    ensures stop { IfErr result (IsStop (IsBoundAnswer (λ name. Rose (S.faults shelf.old name) (S.faults shelf.new name)) (S.content shelf.old) file.now
+        starts.now name.now setting.env setting.budget)) }
     ensures accepted { OnOk result (IsAccepted (S.content shelf.old file.now)) }
     ensures accepted_stop { IfErr result (λ e. IsTrue (is_past_typing (status_of e)) → IsAccepted (S.content shelf.old file.now)) }
 {

@@ -7,4 +7,5 @@ pub mod Writing
 pub mod Answering
 pub mod Single
 pub mod Ordered
+pub mod Opening
 pub mod Given

@@ -3,3 +3,4 @@ pub mod Text
 pub mod Answer
 pub mod Complete
 pub mod Ordered
+pub mod Views

@@ -1,5 +1,5 @@
 -- The text of `leak`.
-use Rattle.std.specs.Prelude.{◌≡◌, ℕ, List, [], ◌∷◌, ◌++◌, Option, Some, None, codes, decimal}
+use Rattle.std.specs.Prelude.{◌≡◌, ℕ, List, ◌++◌, Option, Some, None, codes, decimal}
 use Rattle.label_lattice.specs.declared.label.Label.{Label}
 use Rattle.label_lattice.specs.Order.{Order}
 use Rattle.timing_types.specs.Labelled.{LabelledProgram}
@@ -49,9 +49,20 @@ abbrev pub TopBy : Sharing → LabelledProgram → Label → ℕ → List StartV
 TopBy Partitioned q l t ss r x = HasCounts q l t ss r x
 TopBy Shared q l t ss r x = x ≡ shown_lines q.program.order l t r
 
--- The whole text, of an audit's report and classes. Of a machine that a file describes, how it is shared stands in front.
+-- What is told of the classes of so many runs: what they tell of the start, and a line for each. Nothing of it rests on a type.
+abbrev pub IsClassText : LabelledProgram → ℕ → Classes → List ℕ → Type 0
+IsClassText q runs k x =
+    (numbers : List ℕ) × AreNumbers runs (sizes_of k) numbers × (x ≡ numbers ++ class_lines q.program.declarations k.seen k.firsts)
+
+-- The whole text of an accepted program, of an audit's report and classes. Of a machine that a file describes, how it is
+-- shared stands in front.
 abbrev pub IsLeakText : Environment → LabelledProgram → Label → ℕ → List StartValue → AuditReport → Classes → List ℕ → Type 0
 IsLeakText e q l t ss r k x =
     (top : List ℕ) × TopBy (hardware_of e).sharing q l t ss r top
-    × (numbers : List ℕ) × AreNumbers r.runs (sizes_of k) numbers
-    × (x ≡ (machine_head e ++ top) ++ (numbers ++ class_lines q.program.declarations k.seen k.firsts))
+    × (rest : List ℕ) × IsClassText q r.runs k rest × (x ≡ (machine_head e ++ top) ++ rest)
+
+-- The text of a refused one: its runs, the observer, the budget and the classes, however the machine is shared, and no count
+-- that rests on a type.
+abbrev pub IsOpenText : Environment → LabelledProgram → Label → ℕ → AuditReport → Classes → List ℕ → Type 0
+IsOpenText e q l t r k x =
+    (rest : List ℕ) × IsClassText q r.runs k rest × (x ≡ (machine_head e ++ shown_head q.program.order l t r) ++ rest)

@@ -1,6 +1,8 @@
 //! The lines before those of the classes.
 
 ghost use Rattle.std.specs.Prelude.{◌≡◌, ◌++◌, OnOk};
+ghost use Rattle.leak_audit.specs.declared.report.AuditReport.{AuditReport as AuditReportValue};
+ghost use Rattle.lab_bound.specs.Answer.{shown_head};
 ghost use Rattle.lab_leak.specs.Text.{sharp_line, head_lines, shown_lines};
 
 use lab_bound::shown::put_shown_head;
@@ -71,5 +73,24 @@ pub(crate) fn put_shown(
 {
     put_shown_head(text, order, observer, budget, report)?;
     put(text, &no_bound())?;
+    Ok(())
+}
+
+/// Appends the number of the runs, the observer, and the budget in cycles.
+///
+/// # Errors
+/// `AllocError` where memory runs out.
+pub(crate) fn put_open(
+    text: &mut Vec<u8>,
+    order: &Lattice,
+    observer: Label,
+    budget: u64,
+    runs: u64,
+) -> Result<(), AllocError>
+    ensures { OnOk result ((r : AuditReportValue) → r.runs ≡ runs → text.new.items ≡ text.old.items ++ shown_head order.now observer budget r) }
+{
+    put(text, &number(b"runs ", runs))?;
+    put(text, &label(b"observer ", order, observer))?;
+    put(text, &number(b"budget ", budget))?;
     Ok(())
 }

@@ -5,6 +5,7 @@ mod head;
 pub mod laws;
 pub mod leak;
 mod lines;
+mod open;
 mod sheet;
 mod sizes;
 mod text;

@@ -1,7 +1,8 @@
 //! The lines of the classes.
 
-ghost use Rattle.std.specs.Prelude.{◌≡◌, ◌++◌, OnOk, IfOk, map, codes, decimal};
+ghost use Rattle.std.specs.Prelude.{◌≡◌, ◌<◌, ◌++◌, OnOk, IfOk, map, codes, decimal};
 ghost use Rattle.label_code.specs.Run.{run_from};
+ghost use Rattle.code_lower.specs.Lowered.{lowered};
 ghost use Rattle.cycle_machine.specs.Rest.{told_by};
 ghost use Rattle.start_file.specs.Starts.{seen, IsFor};
 ghost use Rattle.leak_audit.specs.Agreement.{start_of};
@@ -18,16 +19,18 @@ use env_contract::env::MachineEnv;
 use env_contract::make::MakeEnv;
 use lab_seen::line::write_line;
 use lab_seen::load::load;
+use label_code::image::Image;
+use label_lattice::label::Label;
 use seen_line::cells::put_number;
 use start_file::start::Start;
 use std::alloc::Global;
 use text_base::pos::Memory;
 use tim_base::line::Line;
 use tim_base::sink::write_all;
+use timing_types::labelled::Labelled;
 use tool_stages::envs::MachineMaker;
 use tool_stages::in_env;
 use tool_stages::laws::makers_tell_as_histories;
-use tool_stages::prepared::Prepared;
 use tool_stages::setting::Setting;
 
 // What stands before the line of a class's first run.
@@ -44,29 +47,30 @@ fn class_words(size: u64) -> Line
 fn write_class<E: MachineEnv + Drop, M: MakeEnv<E>>(
     alloc: Global,
     maker: &M,
-    p: &Prepared,
+    p: &Labelled,
+    image: &Image,
+    observer: Label,
     start: &Start,
     first: u32,
     size: u64,
+    runs: usize,
     budget: u64,
     out: &mut Sheet,
 ) -> Result<(), Memory>
-    requires fit { CanAudit p.now.compiled.typed.labelled p.now.observer p.now.compiled.image (map seen p.now.starts.items) }
-    requires start { IsFor p.now.compiled.typed.labelled.program (seen start.now) }
+    requires image { image.now ≡ lowered p.now }
+    requires observer { observer.number < p.now.program.order.size }
+    requires start { IsFor p.now.program (seen start.now) }
     ensures { OnOk result (out.new.text.items ≡ out.old.text.items ++ ((codes "class " ++ (decimal size ++ codes " first "))
-        ++ line_text p.now.compiled.typed.labelled p.now.observer first
-        (told_by (run_from E.env p.now.compiled.image.instrs budget (start_of (M.made maker.now) p.now.compiled.typed.labelled.program.order
-        (seen start.now)))))) }
+        ++ line_text p.now observer first
+        (told_by (run_from E.env image.now.instrs budget (start_of (M.made maker.now) p.now.program.order (seen start.now)))))) }
 {
-    let labelled = p.compiled.typed.labelled();
-    let mut machine = load(alloc, maker, labelled, &p.compiled.image, start)?;
+    let mut machine = load(alloc, maker, p, image, start)?;
     let words = class_words(size);
-    let runs = p.starts.len();
     match write_all(out, words.bytes()) {
         Ok(()) => {}
         Err(_) => return Err(Memory),
     }
-    match write_line(&mut machine, labelled, p.observer, first, runs, budget, out) {
+    match write_line(&mut machine, p, observer, first, runs, budget, out) {
         Ok(()) => Ok(()),
         Err(_) => Err(Memory),
     }
@@ -76,29 +80,40 @@ fn write_class<E: MachineEnv + Drop, M: MakeEnv<E>>(
 fn write_in<E: MachineEnv + Drop, M: MachineMaker<E>>(
     alloc: Global,
     maker: &M,
-    p: &Prepared,
+    p: &Labelled,
+    image: &Image,
+    observer: Label,
+    starts: &[Start],
     setting: Setting,
     found: &ClassSizes,
     out: &mut Sheet,
 ) -> Result<(), Memory>
-    requires fit { CanAudit p.now.compiled.typed.labelled p.now.observer p.now.compiled.image (map seen p.now.starts.items) }
+    requires fit { CanAudit p.now observer image.now (map seen starts.now) }
     requires machine { hardware_of setting.env ≡ M.machine maker.now }
-    requires are { AreSizes (classes_of_runs (sequences_in setting.env setting.budget p.now.compiled.typed.labelled p.now.observer.number
-        (map seen p.now.starts.items))) found.now }
-    ensures { OnOk result (out.new.text.items ≡ out.old.text.items ++ class_lines p.now.compiled.typed.labelled.program.declarations
-        (classes_of_runs (sequences_in setting.env setting.budget p.now.compiled.typed.labelled p.now.observer.number (map seen p.now.starts.items))).seen
-        (classes_of_runs (sequences_in setting.env setting.budget p.now.compiled.typed.labelled p.now.observer.number (map seen p.now.starts.items))).firsts) }
+    requires are { AreSizes (classes_of_runs (sequences_in setting.env setting.budget p.now observer.number
+        (map seen starts.now))) found.now }
+    ensures { OnOk result (out.new.text.items ≡ out.old.text.items ++ class_lines p.now.program.declarations
+        (classes_of_runs (sequences_in setting.env setting.budget p.now observer.number (map seen starts.now))).seen
+        (classes_of_runs (sequences_in setting.env setting.budget p.now observer.number (map seen starts.now))).firsts) }
 {
-    p.compiled.image.laws();
+    image.laws();
     makers_tell_as_histories::<E, M>();
-    let (starts, sizes, firsts) = (
-        p.starts.as_slice(),
-        found.sizes.as_slice(),
-        found.firsts.as_slice(),
-    );
+    let (sizes, firsts) = (found.sizes.as_slice(), found.firsts.as_slice());
     for (k, &first) in firsts.iter().enumerate() {
         let start = &starts[first as usize - 1];
-        write_class(alloc, maker, p, start, first, sizes[k], setting.budget, out)?;
+        write_class(
+            alloc,
+            maker,
+            p,
+            image,
+            observer,
+            start,
+            first,
+            sizes[k],
+            starts.len(),
+            setting.budget,
+            out,
+        )?;
     }
     Ok(())
 }
@@ -106,19 +121,22 @@ fn write_in<E: MachineEnv + Drop, M: MachineMaker<E>>(
 // Writes them in an environment.
 fn write_named(
     alloc: Global,
-    p: &Prepared,
+    p: &Labelled,
+    image: &Image,
+    observer: Label,
+    starts: &[Start],
     setting: Setting,
     found: &ClassSizes,
     out: &mut Sheet,
 ) -> Result<(), Memory>
-    requires fit { CanAudit p.now.compiled.typed.labelled p.now.observer p.now.compiled.image (map seen p.now.starts.items) }
-    requires are { AreSizes (classes_of_runs (sequences_in setting.env setting.budget p.now.compiled.typed.labelled p.now.observer.number
-        (map seen p.now.starts.items))) found.now }
-    ensures { OnOk result (out.new.text.items ≡ out.old.text.items ++ class_lines p.now.compiled.typed.labelled.program.declarations
-        (classes_of_runs (sequences_in setting.env setting.budget p.now.compiled.typed.labelled p.now.observer.number (map seen p.now.starts.items))).seen
-        (classes_of_runs (sequences_in setting.env setting.budget p.now.compiled.typed.labelled p.now.observer.number (map seen p.now.starts.items))).firsts) }
+    requires fit { CanAudit p.now observer image.now (map seen starts.now) }
+    requires are { AreSizes (classes_of_runs (sequences_in setting.env setting.budget p.now observer.number
+        (map seen starts.now))) found.now }
+    ensures { OnOk result (out.new.text.items ≡ out.old.text.items ++ class_lines p.now.program.declarations
+        (classes_of_runs (sequences_in setting.env setting.budget p.now observer.number (map seen starts.now))).seen
+        (classes_of_runs (sequences_in setting.env setting.budget p.now observer.number (map seen starts.now))).firsts) }
 {
-    in_env!(setting.env, maker => write_in(alloc, maker, p, setting, found, out))
+    in_env!(setting.env, maker => write_in(alloc, maker, p, image, observer, starts, setting, found, out))
 }
 
 /// Appends the lines of all classes to a text: the first run of each is run once more, in an environment.
@@ -127,19 +145,22 @@ fn write_named(
 /// `Memory` where memory runs out.
 pub(crate) fn with_classes(
     alloc: Global,
-    p: &Prepared,
+    p: &Labelled,
+    image: &Image,
+    observer: Label,
+    starts: &[Start],
     setting: Setting,
     found: &ClassSizes,
     text: Vec<u8>,
 ) -> Result<Vec<u8>, Memory>
-    requires fit { CanAudit p.now.compiled.typed.labelled p.now.observer p.now.compiled.image (map seen p.now.starts.items) }
-    requires are { AreSizes (classes_of_runs (sequences_in setting.env setting.budget p.now.compiled.typed.labelled p.now.observer.number
-        (map seen p.now.starts.items))) found.now }
-    ensures { IfOk result (λ v. v.items ≡ text.items ++ class_lines p.now.compiled.typed.labelled.program.declarations
-        (classes_of_runs (sequences_in setting.env setting.budget p.now.compiled.typed.labelled p.now.observer.number (map seen p.now.starts.items))).seen
-        (classes_of_runs (sequences_in setting.env setting.budget p.now.compiled.typed.labelled p.now.observer.number (map seen p.now.starts.items))).firsts) }
+    requires fit { CanAudit p.now observer image.now (map seen starts.now) }
+    requires are { AreSizes (classes_of_runs (sequences_in setting.env setting.budget p.now observer.number
+        (map seen starts.now))) found.now }
+    ensures { IfOk result (λ v. v.items ≡ text.items ++ class_lines p.now.program.declarations
+        (classes_of_runs (sequences_in setting.env setting.budget p.now observer.number (map seen starts.now))).seen
+        (classes_of_runs (sequences_in setting.env setting.budget p.now observer.number (map seen starts.now))).firsts) }
 {
     let mut out = Sheet { text, faults: 0 };
-    write_named(alloc, p, setting, found, &mut out)?;
+    write_named(alloc, p, image, observer, starts, setting, found, &mut out)?;
     Ok(out.text)
 }

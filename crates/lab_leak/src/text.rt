@@ -1,6 +1,6 @@
 //! The text of `leak`.
 
-ghost use Rattle.std.specs.Prelude.{◌≡◌, ◌∷◌, [], Some, IfOk, IfErr, map, OnOk, IsTrue};
+ghost use Rattle.std.specs.Prelude.{◌≡◌, ◌∷◌, [], Some, false, IfOk, IfErr, map, OnOk, IsTrue};
 ghost use Rattle.tim_base.specs.Kept.{KeepsFiles, NoCountFalls};
 ghost use Rattle.tim_base.specs.Faults.{Rose};
 ghost use Rattle.start_file.specs.Starts.{seen};
@@ -13,16 +13,22 @@ ghost use Rattle.tool_stages.specs.Fetches.{Fetches};
 ghost use Rattle.tool_stages.specs.Envs.{hardware_of, ReportsIn};
 ghost use Rattle.lab_bound.specs.Text.{TextPut};
 ghost use Rattle.space_stage.specs.Given.{value_of};
-ghost use Rattle.lab_leak.specs.Answer.{HasLeak, HasLeakOf, CanLeakOf, Leaks, sequences_in};
+ghost use Rattle.lab_runs.specs.ShownViews.{shown_of};
+ghost use Rattle.lab_leak.specs.Answer.{HasLeak, HasTypedLeak, CanLeakOf, IsLeakAnswer, sequences_in};
+ghost use Rattle.lab_leak.specs.Views.{LeakBy};
 ghost use Rattle.lab_leak.specs.Classes.{classes_of_runs};
 ghost use Rattle.lab_leak.specs.Text.{HasCounts, TopBy, IsLeakText};
 
 use crate::head::{put_head, put_shown};
 use crate::lines::with_classes;
+use crate::open::open_text;
 use crate::sizes::sizes;
 use audit_stage::audited::audited;
 use lab_bound::own::put_own;
 use lab_bound::shared::put_shared;
+use lab_runs::least::LeastLabelled;
+use lab_runs::shown::{ShownProgram, shown_file};
+use label_code::image::Image;
 use label_lattice::label::Label;
 use leak_audit::report::AuditReport;
 use leak_numbers::numbers::put_numbers;
@@ -37,7 +43,7 @@ use space_stage::given::{StartSet, given};
 use std::alloc::Global;
 use text_base::pos::Memory;
 use tim_base::shelf::Shelf;
-use tool_stages::compiled::{Compiled, compile};
+use tool_stages::compiled::Compiled;
 use tool_stages::prepared::Prepared;
 use tool_stages::setting::Setting;
 use tool_texts::stop::{Stop, no_memory};
@@ -111,7 +117,11 @@ fn told_text(
     put_top(alloc, &mut text, p, setting, report)?;
     let runs = u64::from(report.runs);
     put_numbers(&mut text, runs, found.sizes.as_slice())?;
-    let whole = with_classes(alloc, p, setting, &found, text)?;
+    let (labelled, starts) = (p.compiled.typed.labelled(), p.starts.as_slice());
+    let image = &p.compiled.image;
+    let whole = with_classes(
+        alloc, labelled, image, p.observer, starts, setting, &found, text,
+    )?;
     Ok(whole)
 }
 
@@ -140,7 +150,7 @@ fn prepared_text<W: Watch>(
 }
 
 // The text of a compiled program and of what a start file gives.
-fn given_text<W: Watch>(
+fn typed_text<W: Watch>(
     alloc: Global,
     compiled: Compiled,
     observer: Label,
@@ -150,8 +160,8 @@ fn given_text<W: Watch>(
 ) -> Result<Vec<u8>, Stop>
     requires fit { CanLeakOf compiled.typed.labelled observer compiled.image (value_of given) }
     requires cycles { IsCycles setting.budget }
-    ensures text { IfOk result (λ v. HasLeakOf setting.env setting.budget compiled.typed.labelled (Some observer) (value_of given) status.Done v.items) }
-    ensures stop { IfErr result (IsStop (HasLeakOf setting.env setting.budget compiled.typed.labelled (Some observer) (value_of given))) }
+    ensures text { IfOk result (λ v. HasTypedLeak setting.env setting.budget compiled.typed.labelled (Some observer) (value_of given) status.Done v.items) }
+    ensures stop { IfErr result (IsStop (HasTypedLeak setting.env setting.budget compiled.typed.labelled (Some observer) (value_of given))) }
 {
     match given {
         StartSet::List(starts) => {
@@ -175,8 +185,44 @@ fn given_text<W: Watch>(
     }
 }
 
-/// The text of `leak` for the program of a file and the starts of another one, which lists them or gives a space. A watch is
-/// told how far each run has come.
+// The text of what runs of a program, and of what a start file gives.
+fn given_text<W: Watch>(
+    alloc: Global,
+    labels: LeastLabelled,
+    image: Image,
+    observer: Label,
+    given: StartSet,
+    setting: Setting,
+    watch: &W,
+) -> Result<Vec<u8>, Stop>
+    requires fit { CanLeakOf (shown_of labels).labelled observer image (value_of given) }
+    requires cycles { IsCycles setting.budget }
+    ensures text { IfOk result (λ v. LeakBy labels setting.env setting.budget (Some observer) (value_of given) status.Done v.items) }
+    ensures stop { IfErr result (IsStop (LeakBy labels setting.env setting.budget (Some observer) (value_of given))) }
+{
+    match labels {
+        LeastLabelled::Accepted(typed) => {
+            let compiled = Compiled {
+                typed,
+                image,
+                observer: Some(observer),
+            };
+            match typed_text(alloc, compiled, observer, given, setting, watch) {
+                Ok(text) => Ok(text),
+                Err(stop) => Err(stop),
+            }
+        }
+        LeastLabelled::Refused(p, refusal) => {
+            match open_text(alloc, &p, &refusal, &image, observer, given, setting, watch) {
+                Ok(text) => Ok(text),
+                Err(stop) => Err(stop),
+            }
+        }
+    }
+}
+
+/// The text of `leak` for the program of a file and the starts of another one, which lists them or gives a space. With `refused` a
+/// program runs also where no labels type it. A watch is told how far each run has come.
 ///
 /// # Errors
 /// Stops with the first refusal, or with `Memory`.
@@ -187,29 +233,31 @@ pub(crate) fn leak_text<S: Shelf, W: Watch>(
     starts: &str,
     name: &str,
     setting: Setting,
+    refused: bool,
     watch: &W,
 ) -> Result<Vec<u8>, Stop>
     requires { IsCycles setting.budget }
     ensures same { KeepsFiles (S.content shelf.old) (S.content shelf.new) }
     ensures later { NoCountFalls (S.faults shelf.old) (S.faults shelf.new) }
     ensures log { Fetches (file.now ∷ starts.now ∷ []) (S.log shelf.old) (S.log shelf.new) result }
-    ensures text { IfOk result (λ v. Leaks (λ name. Rose (S.faults shelf.old name) (S.faults shelf.new name)) (S.content shelf.old) file.now starts.now
-        name.now setting.env setting.budget status.Done v.items) }
-    ensures stop { IfErr result (IsStop (Leaks (λ name. Rose (S.faults shelf.old name) (S.faults shelf.new name)) (S.content shelf.old) file.now starts.now
-        name.now setting.env setting.budget)) }
-    ensures accepted { OnOk result (IsAccepted (S.content shelf.old file.now)) }
-    ensures accepted_stop { IfErr result (λ e. IsTrue (is_past_typing (status_of e)) → IsAccepted (S.content shelf.old file.now)) }
+    ensures text { IfOk result (λ v. IsLeakAnswer (λ name. Rose (S.faults shelf.old name) (S.faults shelf.new name)) (S.content shelf.old) file.now starts.now
+        name.now setting.env setting.budget refused status.Done v.items) }
+    ensures stop { IfErr result (IsStop (IsLeakAnswer (λ name. Rose (S.faults shelf.old name) (S.faults shelf.new name)) (S.content shelf.old) file.now
+        starts.now name.now setting.env setting.budget refused)) }
+    ensures accepted { refused ≡ false → OnOk result (IsAccepted (S.content shelf.old file.now)) }
+    ensures accepted_stop { refused ≡ false → IfErr result (λ e. IsTrue (is_past_typing (status_of e)) → IsAccepted (S.content shelf.old file.now)) }
 {
-    let compiled = match compile(alloc, shelf, file, Some(name)) {
-        Ok(compiled) => compiled,
+    let shown = match shown_file(alloc, shelf, file, Some(name), refused) {
+        Ok(shown) => shown,
         Err(stop) => return Err(stop),
     };
-    let observer = compiled.observer.unwrap();
-    let given = match given(alloc, shelf, starts, compiled.typed.labelled().program()) {
+    let observer = shown.observer.unwrap();
+    let given = match given(alloc, shelf, starts, shown.labels.labelled().program()) {
         Ok(given) => given,
         Err(stop) => return Err(stop),
     };
-    match given_text(alloc, compiled, observer, given, setting, watch) {
+    let ShownProgram { labels, image, .. } = shown;
+    match given_text(alloc, labels, image, observer, given, setting, watch) {
         Ok(text) => Ok(text),
         Err(stop) => Err(stop),
     }

@@ -1,5 +1,5 @@
 -- What runs of a program: it is one, and what stops it.
-use Rattle.std.proofs.Common.{◌≡◌, ◌<◌, ◌⊎◌, ◌++◌, ℕ, List, All, Option, Bool, true, false, inl, inr, refl, sym, ap, ◌∙◌, subst}
+use Rattle.std.proofs.Common.{◌≡◌, ◌<◌, ◌≤◌, ◌⊎◌, ◌++◌, ℕ, List, All, length, Option, Bool, true, false, inl, inr, refl, sym, ap, ◌∙◌, subst}
 use Rattle.std.specs.Prelude.{IsTrue, IfSome}
 use Rattle.label_lattice.specs.declared.label.Label.{Label}
 use Rattle.label_lattice.specs.Order.{Order, IsOrder}
@@ -8,31 +8,31 @@ use Rattle.parse_laws.proofs.Meant.{program_order}
 use Rattle.timing_types.specs.Labelled.{LabelledProgram}
 use Rattle.label_infer.proofs.OneLeast.{one_labelled}
 use Rattle.label_code.specs.Shaped.{Code}
+use Rattle.code_lower.specs.Lowered.{lowered}
 use Rattle.start_file.specs.Starts.{StartValue, IsFor}
 use Rattle.tool_texts.specs.declared.status.Status.{Status}
 use Rattle.tool_texts.specs.declared.status.Status.TheVariants as status
 use Rattle.tool_texts.specs.declared.stop.Stop.{Stop}
 use Rattle.tool_texts.specs.Ends.{EndsBy, IsStop, status_of, stop_text}
 use Rattle.tool_texts.proofs.EndLemmas.{broke_map, ends_done}
-use Rattle.tool_stages.specs.Stages.{Then, Reads, ProgramStops, Observes, ObserverStops, HasImage, ImageStops, StartsAre, StartStops}
+use Rattle.tool_stages.specs.Stages.{Then, Reads, ProgramStops, Observes, HasImage, ImageStops, StartsAre, StartStops}
 use Rattle.tool_stages.specs.Content.{Content, IsKnown}
-use Rattle.tool_stages.specs.Begins.{NoMore, CompileStops}
+use Rattle.tool_stages.specs.Begins.{NoMore}
 use Rattle.tool_stages.specs.Accepted.{is_past_typing, IsAccepted}
 use Rattle.tool_stages.proofs.ChainLemmas.{reads_one, starts_done}
-use Rattle.tool_stages.proofs.EarlyLemmas.{compile_not_late}
-use Rattle.tool_stages.proofs.GoesLemmas.{then_goes, then_goes_from, program_goes, observer_goes, typing_goes, image_goes, starts_go}
+use Rattle.tool_stages.proofs.GoesLemmas.{then_goes, then_goes_from, program_goes, typing_goes, image_goes, starts_go}
 use Rattle.tool_stages.proofs.OneFirst.{one_observer}
-use Rattle.tool_stages.proofs.OneLemmas.{Same, then_one, one_program, one_observer_stop, one_typed, typed_or_not, one_type_stop, one_image_stop, image_or_not}
+use Rattle.tool_stages.proofs.OneLemmas.{Same, then_one, one_program, one_typed, typed_or_not, one_type_stop, one_image_stop, image_or_not}
 use Rattle.tool_stages.proofs.OneLemmas.{one_start_stop, one_list_of_starts}
 use Rattle.tool_stages.proofs.RunLemmas.{observer_below}
 use Rattle.tool_stages.proofs.SoundLemmas.{least_made}
 use Rattle.tool_stages.proofs.StartLemmas.{count_given}
 use Rattle.tool_stages.proofs.StopLemmas.{start_rise}
-use Rattle.lab_texts.specs.InLab.{InLab}
-use Rattle.lab_texts.proofs.LabLemmas.{one_in_lab}
 use Rattle.lab_runs.specs.CanRun.{CanRun}
+use Rattle.lab_runs.specs.Labels.{UnnamedStops, observer_option, NamedCompileStops}
 use Rattle.lab_runs.specs.Shown.{OfRuns, Shown, head_line, RunsAccepted, RunsRefused, Shows, ShowStops, ShowsOf, ShowsFrom, ShowsRuns}
 use Rattle.lab_runs.specs.Shown.{IsShown, HasShown, HasRuns, ProgramShowStops, FileShowStops, RunsStop, RunsAs, CanShow}
+use Rattle.lab_runs.proofs.NameLemmas.{one_unnamed_stop, unnamed_goes, compile_not_late}
 
 -- ---- a program
 
@@ -53,7 +53,8 @@ one_refused p a b o h k =
     same_shown a.labelled b.labelled a.head b.head (one_labelled p o a.labelled b.labelled h.program k.program h.least k.least)
     (h.head ∙ ap head_line (one_type_stop p status.Refused status.Refused h.refusal k.refusal o h.refused k.refused).1 ∙ sym k.head)
 
-not_both : (p : Syntax) (a b : Shown) → RunsAccepted p a → RunsRefused p b → ⊥
+-- no program is both
+pub not_both : (p : Syntax) (a b : Shown) → RunsAccepted p a → RunsRefused p b → ⊥
 not_both p a b h k = typed_or_not p a.labelled status.Refused k.refusal h.types k.refused
 
 -- one program runs at most
@@ -192,7 +193,7 @@ module _ (refused : Bool) (content : Content) (file : List ℕ) (observer : Opti
 
 -- what stops without the flag before the starts does not come past the typing
 stops_as : (Rises : List ℕ → Type 0) (content : Content) (file : List ℕ) (observer : Option (List ℕ)) (s : Status) (t : List ℕ)
-    → FileShowStops false Rises content file observer s t → CompileStops Rises content file observer s t
+    → FileShowStops false Rises content file observer s t → NamedCompileStops Rises content file observer s t
 stops_as Rises content file observer s t (inl h) = inl h
 stops_as Rises content file observer s t (inr (p, reads, inl h)) = inr (p, reads, inl h)
 stops_as Rises content file observer s t (inr (p, reads, inr (o, sees, inl h))) = inr (p, reads, inr (o, sees, inl h))
@@ -204,9 +205,63 @@ pub show_not_late : (refused : Bool) (Rises : List ℕ → Type 0) (content : Co
     → refused ≡ false → IsStop (FileShowStops refused Rises content file observer) e → IsTrue (is_past_typing (status_of e)) → ⊥
 show_not_late refused Rises content file observer e is h =
     compile_not_late Rises content file observer e
-    (broke_map (FileShowStops false Rises content file observer) (CompileStops Rises content file observer) (status_of e) (stop_text e)
+    (broke_map (FileShowStops false Rises content file observer) (NamedCompileStops Rises content file observer) (status_of e) (stop_text e)
     (stops_as Rises content file observer (status_of e) (stop_text e))
     (subst (λ b. IsStop (FileShowStops b Rises content file observer) e) is h))
+
+-- ---- what goes on from what runs
+
+module _ (refused : Bool) (Rises : List ℕ → Type 0) (content : Content) (file : List ℕ) (observer : Option (List ℕ))
+    (Next : Syntax → Shown → Option Label → Code → Status → List ℕ → Type 0) where
+  abbrev image_next : Syntax → Option Label → Shown → Status → List ℕ → Type 0
+  image_next p o x = Then (ImageStops x.labelled) (HasImage x.labelled) (λ code. Next p x o code)
+
+  abbrev shown_next : Syntax → Option Label → Status → List ℕ → Type 0
+  shown_next p o = Then (ShowStops refused p) (Shows refused p) (λ x. image_next p o x)
+
+  -- there is one answer, where there is one to what runs
+  pub from_one : (s u : Status) (t y : List ℕ) → (Rises file → ⊥) → IsKnown (content file)
+      → ((p : Syntax) (x : Shown) (o : Option Label) (code : Code) → Next p x o code s t → Next p x o code u y → Same s u t y)
+      → ShowsFrom refused Rises content file observer Next s t → ShowsFrom refused Rises content file observer Next u y → Same s u t y
+  from_one s u t y n known next =
+      reads_one s u t y (Rises file) (content file) (λ p. ShowsOf refused p observer (Next p)) n known (λ p order.
+      then_one (UnnamedStops observer_option p.order observer) (Observes p.order observer) (λ o. shown_next p o) s u t y
+      (one_unnamed_stop observer_option p.order observer s u t y) (λ o v z. unnamed_goes observer_option p.order observer o v z)
+      (λ a b. one_observer p.order observer a b order) (λ o sees.
+      then_one (ShowStops refused p) (Shows refused p) (λ x. image_next p o x) s u t y
+      (one_show_stop refused p s u t y order) (λ x v z. shown_or_not refused p x v z) (λ a b. one_shown refused p a b order) (λ x shows.
+      then_one (ImageStops x.labelled) (HasImage x.labelled) (λ code. Next p x o code) s u t y
+      (one_image_stop x.labelled s u t y) (λ code v z. image_or_not x.labelled code v z) (λ a b h k. h.0 ∙ sym k.0) (λ code image.
+      next p x o code))))
+
+  -- a program that runs, with an image and a label, goes on
+  pub from_done : (s : Status) (t : List ℕ) (p : Syntax) (o : Option Label) → (Rises file → ⊥) → IsKnown (content file) → Reads (content file) p
+      → Observes p.order observer o → RunsAs refused p → ((x : Shown) → Shows refused p x → length (lowered x.labelled).instrs ≤ 200000)
+      → ((x : Shown) (code : Code) → Shows refused p x → Next p x o code s t → s ≡ status.Done)
+      → ShowsFrom refused Rises content file observer Next s t → s ≡ status.Done
+  from_done s t p o n known reads observes runs short next h =
+      then_goes_from (ProgramStops (Rises file) (content file)) (Reads (content file)) (λ p. ShowsOf refused p observer (Next p)) s t
+      p reads (one_program (content file) known) (program_goes (Rises file) (content file) p s t n known reads)
+      (then_goes_from (UnnamedStops observer_option p.order observer) (Observes p.order observer) (λ o. shown_next p o) s t
+      o observes (λ a b. one_observer p.order observer a b (program_order _ p reads.spelled)) (unnamed_goes observer_option p.order observer o s t observes)
+      (then_goes (ShowStops refused p) (Shows refused p) (λ x. image_next p o x) s t (show_goes refused p s t runs) (λ x shows.
+      then_goes (ImageStops x.labelled) (HasImage x.labelled) (λ code. Next p x o code) s t (image_goes x.labelled s t (short x shows)) (λ code image.
+      next x code shows)))) h
+
+no_show_fault : (refused : Bool) (p : Syntax) (t : List ℕ) → ShowStops refused p status.WriteFault t → ⊥
+no_show_fault false p t h = h
+no_show_fault true p t h = h
+
+-- no answer is a write fault
+pub from_no_fault : (refused : Bool) (Rises : List ℕ → Type 0) (content : Content) (file : List ℕ) (observer : Option (List ℕ))
+    (Next : Syntax → Shown → Option Label → Code → Status → List ℕ → Type 0) (t : List ℕ)
+    → ((p : Syntax) (x : Shown) (o : Option Label) (code : Code) → Next p x o code status.WriteFault t → ⊥)
+    → ShowsFrom refused Rises content file observer Next status.WriteFault t → ⊥
+from_no_fault refused Rises content file observer Next t f (inl h) = h
+from_no_fault refused Rises content file observer Next t f (inr (p, reads, inl h)) = h
+from_no_fault refused Rises content file observer Next t f (inr (p, reads, inr (o, sees, inl h))) = no_show_fault refused p t h
+from_no_fault refused Rises content file observer Next t f (inr (p, reads, inr (o, sees, inr (x, shows, inl h)))) = h
+from_no_fault refused Rises content file observer Next t f (inr (p, reads, inr (o, sees, inr (x, shows, inr (code, image, h))))) = f p x o code h
 
 -- ---- answers
 
@@ -235,50 +290,28 @@ module _ (refused : Bool) (Rises : List ℕ → Type 0) (content : Content) (fil
   runs_answer x o code ss u h is =
       from_goes refused observer Rises content file x o code text_next status.Done (x.head ++ u) h.has (inr (ss, h.given, (refl, u, is, refl)))
 
-  shows_one : (s u : Status) (t x : List ℕ) → (Rises file → ⊥) → (Rises starts → ⊥) → IsKnown (content file) → IsKnown (content starts)
-      → ((q : LabelledProgram) (o : Option Label) (code : Code) (ss : List StartValue) (y z : List ℕ) → IsText q o code ss y → IsText q o code ss z → y ≡ z)
-      → ShowsRuns refused Rises content file starts observer IsText s t → ShowsRuns refused Rises content file starts observer IsText u x → Same s u t x
-  shows_one s u t x n m known kept one =
-      reads_one s u t x (Rises file) (content file) (λ p. ShowsOf refused p observer (text_next p)) n known (λ p order.
-      then_one (ObserverStops p.order observer) (Observes p.order observer)
-      (λ o. Then (ShowStops refused p) (Shows refused p) (λ x. Then (ImageStops x.labelled) (HasImage x.labelled) (λ code. text_next p x o code))) s u t x
-      (one_observer_stop p.order observer s u t x) (λ o v y. observer_goes p.order observer o v y) (λ a b. one_observer p.order observer a b order) (λ o sees.
-      then_one (ShowStops refused p) (Shows refused p) (λ x. Then (ImageStops x.labelled) (HasImage x.labelled) (λ code. text_next p x o code)) s u t x
-      (one_show_stop refused p s u t x order) (λ x v y. shown_or_not refused p x v y) (λ a b. one_shown refused p a b order) (λ r shows.
-      then_one (ImageStops r.labelled) (HasImage r.labelled) (λ code. text_next p r o code) s u t x
-      (one_image_stop r.labelled s u t x) (λ code v y. image_or_not r.labelled code v y) (λ a b h k. h.0 ∙ sym k.0) (λ code image.
-      then_one (StartStops (Rises starts) (content starts) p) (StartsAre (content starts) p) (λ ss. told_next r o code ss) s u t x
-      (one_start_stop (content starts) kept p (Rises starts) s u t x m) (λ ss v y are. starts_go (Rises starts) (content starts) p ss v y m kept are)
-      (one_list_of_starts (content starts) kept p) (λ ss are h k.
-      (h.0 ∙ sym k.0, h.3 ∙ ap (λ z. r.head ++ z) (one r.labelled o code ss h.1 k.1 h.2 k.2) ∙ sym k.3))))))
-
   -- files that are told and read give one answer, where runs give one text
   pub one_shows : (s u : Status) (t x : List ℕ) → (Rises file → ⊥) → (Rises starts → ⊥) → IsKnown (content file) → IsKnown (content starts)
       → ((q : LabelledProgram) (o : Option Label) (code : Code) (ss : List StartValue) (y z : List ℕ) → IsText q o code ss y → IsText q o code ss z → y ≡ z)
-      → InLab (ShowsRuns refused Rises content file starts observer IsText) s t → InLab (ShowsRuns refused Rises content file starts observer IsText) u x
-      → Same s u t x
+      → ShowsRuns refused Rises content file starts observer IsText s t → ShowsRuns refused Rises content file starts observer IsText u x → Same s u t x
   one_shows s u t x n m known kept one =
-      one_in_lab (ShowsRuns refused Rises content file starts observer IsText) s u t x (λ y z. shows_one s u y z n m known kept one)
+      from_one refused Rises content file observer text_next s u t x n known (λ p r o code.
+      then_one (StartStops (Rises starts) (content starts) p) (StartsAre (content starts) p) (λ ss. told_next r o code ss) s u t x
+      (one_start_stop (content starts) kept p (Rises starts) s u t x m) (λ ss v y are. starts_go (Rises starts) (content starts) p ss v y m kept are)
+      (one_list_of_starts (content starts) kept p) (λ ss are h k.
+      (h.0 ∙ sym k.0, h.3 ∙ ap (λ z. r.head ++ z) (one r.labelled o code ss h.1 k.1 h.2 k.2) ∙ sym k.3)))
 
   show_done : (s : Status) (t : List ℕ) → CanShow refused content file starts observer → (Rises file → ⊥) → (Rises starts → ⊥)
       → ShowsRuns refused Rises content file starts observer IsText s t → s ≡ status.Done
-  show_done s t can n m h =
-      let p : Syntax = can.program in
-      let o : Option Label = can.observed in
-      then_goes_from (ProgramStops (Rises file) (content file)) (Reads (content file)) (λ p. ShowsOf refused p observer (text_next p)) s t
-      p can.reads (one_program (content file) can.known) (program_goes (Rises file) (content file) p s t n can.known can.reads)
-      (then_goes_from (ObserverStops p.order observer) (Observes p.order observer)
-      (λ o. Then (ShowStops refused p) (Shows refused p) (λ x. Then (ImageStops x.labelled) (HasImage x.labelled) (λ code. text_next p x o code))) s t
-      o can.observes (λ a b. one_observer p.order observer a b (program_order _ p can.reads.spelled)) (observer_goes p.order observer o s t can.observes)
-      (then_goes (ShowStops refused p) (Shows refused p) (λ x. Then (ImageStops x.labelled) (HasImage x.labelled) (λ code. text_next p x o code)) s t
-      (show_goes refused p s t can.runs) (λ x shows.
-      then_goes (ImageStops x.labelled) (HasImage x.labelled) (λ code. text_next p x o code) s t (image_goes x.labelled s t (can.short x shows)) (λ code image.
-      starts_done s t (Rises starts) (content starts) p (λ ss. told_next x o code ss) can.all m can.known_starts can.given (λ k. k.0))))) h
+  show_done s t can n m =
+      from_done refused Rises content file observer text_next s t can.program can.observed n can.known can.reads can.observes can.runs can.short
+      (λ x code shows. starts_done s t (Rises starts) (content starts) can.program (λ ss. told_next x can.observed code ss) can.all m can.known_starts can.given
+      (λ k. k.0))
 
   -- a call that can be done is done
   pub show_completes : (old new : Option (List ℕ)) (Before : List ℕ → Type 0) (r : Status) (Risen : Type 0)
-      → EndsBy old new Before (InLab (ShowsRuns refused Rises content file starts observer IsText)) r → (r ≡ status.WriteFault → Risen)
+      → EndsBy old new Before (ShowsRuns refused Rises content file starts observer IsText) r → (r ≡ status.WriteFault → Risen)
       → CanShow refused content file starts observer → (Rises file → ⊥) → (Rises starts → ⊥) → (Risen → ⊥) → (r ≡ status.Done) ⊎ (r ≡ status.Memory)
   show_completes old new Before r Risen ends write can n m k =
-      ends_done old new Before (InLab (ShowsRuns refused Rises content file starts observer IsText)) r ends (λ e. k (write e))
-      (λ t h. show_done r h.0 can n m h.1)
+      ends_done old new Before (ShowsRuns refused Rises content file starts observer IsText) r ends (λ e. k (write e))
+      (λ t h. show_done r t can n m h)

@@ -1,4 +1,5 @@
 pub mod Runs
 pub mod CanRun
+pub mod Labels
 pub mod Shown
 pub mod ShownViews

@@ -10,11 +10,12 @@ use Rattle.code_lower.specs.Lowered.{lowered}
 use Rattle.start_file.specs.Starts.{StartValue}
 use Rattle.tool_texts.specs.declared.status.Status.{Status}
 use Rattle.tool_texts.specs.declared.status.Status.TheVariants as status
-use Rattle.tool_stages.specs.Stages.{Then, Reads, ProgramStops, Observes, ObserverStops, Types, HasNoType, TypeStops}
+use Rattle.tool_stages.specs.Stages.{Then, Reads, ProgramStops, Observes, Types, HasNoType, TypeStops}
 use Rattle.tool_stages.specs.Stages.{HasImage, ImageStops, StartsAre, StartStops}
 use Rattle.tool_stages.specs.Content.{Content, IsKnown}
 use Rattle.tool_stages.specs.Begins.{NoMore}
 use Rattle.tool_stages.specs.Goes.{IsTypable}
+use Rattle.lab_runs.specs.Labels.{UnnamedStops, observer_option}
 
 -- what is said of a text, by a program, the observer that is named, an image, and starts
 abbrev pub OfRuns : Type 1
@@ -55,7 +56,7 @@ ShowStops true p = NoMore
 -- From a program and an observer's name to what runs, and its image; then the rest goes on.
 abbrev pub ShowsOf : Bool → Syntax → Option (List ℕ) → (Shown → Option Label → Code → Status → List ℕ → Type 0) → Status → List ℕ → Type 0
 ShowsOf refused p observer Next =
-    Then (ObserverStops p.order observer) (Observes p.order observer) (λ o.
+    Then (UnnamedStops observer_option p.order observer) (Observes p.order observer) (λ o.
     Then (ShowStops refused p) (Shows refused p) (λ x.
     Then (ImageStops x.labelled) (HasImage x.labelled) (λ code.
     Next x o code)))

@@ -61,8 +61,11 @@ impl LeastLabelled {
     }
 }
 
-// Writes the line before the runs of a refused program.
-fn write_refusal<W: Sink>(refusal: &Line, out: &mut W) -> Result<(), SinkFault>
+/// Writes the line before the runs of a refused program, from the line of its refusal.
+///
+/// # Errors
+/// The sink's fault, where a prefix of that is written.
+pub fn write_refusal<W: Sink>(refusal: &Line, out: &mut W) -> Result<(), SinkFault>
     ensures text { OnOk result (Appends (W.taken out.old) (W.taken out.new) (head_line refusal.now)) }
     ensures prefix { OnErr result (AppendsPrefix (W.taken out.old) (W.taken out.new) (head_line refusal.now)) }
     ensures later { W.faults out.old ≤ W.faults out.new }

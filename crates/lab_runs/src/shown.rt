@@ -14,6 +14,7 @@ ghost use Rattle.lab_runs.specs.CanRun.{CanRun};
 ghost use Rattle.lab_runs.specs.Shown.{IsShown, HasShown, HasRuns, ProgramShowStops, FileShowStops, RunsStop};
 ghost use Rattle.lab_runs.specs.ShownViews.{shown_of};
 
+use crate::label::observer_named;
 use crate::least::{LeastLabelled, least_labelled};
 use code_lower::lower::{LowerFault, lower_labelled};
 use label_code::image::Image;
@@ -22,7 +23,6 @@ use mit_syntax::program::Program;
 use start_file::start::Start;
 use std::alloc::Global;
 use tim_base::shelf::Shelf;
-use tool_stages::observer::observer;
 use tool_stages::program::read_program;
 use tool_stages::starts::all_starts;
 use tool_texts::lines;
@@ -67,7 +67,7 @@ fn shown_program(
     ensures ok { IfOk result (λ r. IsShown refused_too program (option_map (λ s. s.now) name.entry) (shown_of r.labels) r.observer r.image) }
     ensures stop { IfErr result (IsStop (ProgramShowStops refused_too program (option_map (λ s. s.now) name.entry))) }
 {
-    let observer = observer(program.lattice(), name)?;
+    let observer = observer_named(alloc, program.lattice(), name)?;
     let labels = match least_labelled(alloc, program, refused_too) {
         Ok(labels) => labels,
         Err(stop) => return Err(stop),
@@ -82,8 +82,12 @@ fn shown_program(
     }
 }
 
-// From a file to what runs, and from an observer's name to a label.
-fn shown_file<S: Shelf>(
+/// What runs of the program of a file, and the label of an observer that is named. With `refused_too` a program runs also where
+/// no labels type it.
+///
+/// # Errors
+/// Stops with the first refusal, or with `Memory`.
+pub fn shown_file<S: Shelf>(
     alloc: Global,
     shelf: &mut S,
     file: &str,

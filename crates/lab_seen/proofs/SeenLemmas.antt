@@ -13,7 +13,6 @@ use Rattle.tool_texts.specs.declared.stop.Stop.{Stop}
 use Rattle.tool_texts.specs.Ends.{EndsBy, IsStop, status_of, stop_text}
 use Rattle.tool_texts.specs.Texts.{memory_line}
 use Rattle.tool_stages.specs.Content.{Content}
-use Rattle.lab_texts.specs.InLab.{lab_text}
 use Rattle.lab_runs.specs.CanRun.{CanRun}
 use Rattle.lab_runs.specs.Runs.{texts, WritesSome}
 use Rattle.lab_runs.specs.Shown.{Shown, HasRuns, RunsStop}
@@ -35,8 +34,8 @@ module _ (Rises : List ℕ → Type 0) (content : Content) (file starts observer
   -- what stops before the runs
   pub seen_stops : (old new : Option (List ℕ)) (stop : Stop) (r : Status)
       → IsStop (RunsStop refused Rises content file starts (Some observer)) stop
-      → (r ≢ status.WriteFault → (r ≡ status_of stop) × Appends old new (lab_text (status_of stop) (stop_text stop)))
-      → (r ≡ status.WriteFault → AppendsPrefix old new (lab_text (status_of stop) (stop_text stop)))
+      → (r ≢ status.WriteFault → (r ≡ status_of stop) × Appends old new (stop_text stop))
+      → (r ≡ status.WriteFault → AppendsPrefix old new (stop_text stop))
       → EndsBy old new Before Answer r
   seen_stops = runs_stop refused Rises content file starts (Some observer) (AreLines e budget) (AreLines e budget)
 

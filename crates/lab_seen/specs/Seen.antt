@@ -10,7 +10,6 @@ use Rattle.tool_stages.specs.declared.envs.Environment.{Environment}
 use Rattle.tool_texts.specs.declared.status.Status.{Status}
 use Rattle.tool_stages.specs.Content.{Content}
 use Rattle.tool_stages.specs.Envs.{told_in}
-use Rattle.lab_texts.specs.InLab.{InLab}
 use Rattle.lab_runs.specs.Runs.{texts}
 use Rattle.lab_runs.specs.Shown.{ShowsRuns, ShowsBefore}
 
@@ -29,7 +28,7 @@ AreLines e t q (Some l) code ss x = x ≡ texts (line_in e t q l code) ss
 
 -- the answer of `seen`, where refused programs are asked for and where not
 abbrev pub IsSeen : (List ℕ → Type 0) → Content → List ℕ → List ℕ → List ℕ → Environment → ℕ → Bool → Status → List ℕ → Type 0
-IsSeen Rises content file starts observer e t refused = InLab (ShowsRuns refused Rises content file starts (Some observer) (AreLines e t))
+IsSeen Rises content file starts observer e t refused = ShowsRuns refused Rises content file starts (Some observer) (AreLines e t)
 
 -- what may stand before the line for memory
 abbrev pub SeenBefore : Content → List ℕ → List ℕ → List ℕ → Environment → ℕ → Bool → List ℕ → Type 0

@@ -12,12 +12,11 @@ ghost use Rattle.lab_seen.specs.Seen.{IsSeen, SeenBefore};
 use crate::walk::write_lines;
 use lab_runs::fault::RunFault;
 use lab_runs::shown::shown_runs;
-use lab_texts::finish::stop;
 use std::alloc::Global;
 use tim_base::shelf::Shelf;
 use tim_base::sink::Sink;
 use tool_stages::setting::Setting;
-use tool_texts::finish::stop_for_memory;
+use tool_texts::finish::{stop, stop_for_memory};
 use tool_texts::status::Status;
 
 // The same, but for what is said of a call that can be done.

@@ -16,22 +16,21 @@ use Rattle.flow_path.specs.Steps.{written}
 use Rattle.flow_print.specs.Lines.{variable_text}
 use Rattle.tool_texts.specs.declared.status.Status.{Status}
 use Rattle.tool_texts.specs.declared.status.Status.TheVariants as status
-use Rattle.tool_texts.specs.Texts.{usage_text}
-use Rattle.tool_stages.specs.Stages.{Then, Reads, ProgramStops, ObserverStops, HasImage, ImageStops}
+use Rattle.tool_stages.specs.Stages.{Then, Reads, ProgramStops, HasImage, ImageStops}
 use Rattle.tool_stages.specs.Content.{Content, IsKnown}
 use Rattle.tool_stages.proofs.OneFirst.{one_observer}
-use Rattle.tool_stages.proofs.OneLemmas.{Same, then_one, one_program, one_observer_stop, one_image_stop, image_or_not}
-use Rattle.tool_stages.proofs.GoesLemmas.{one_told, program_goes, observer_goes, image_goes}
+use Rattle.tool_stages.proofs.OneLemmas.{Same, then_one, one_program, one_image_stop, image_or_not}
+use Rattle.tool_stages.proofs.GoesLemmas.{one_told, program_goes, image_goes}
 use Rattle.tool_stages.proofs.ChainLemmas.{reads_one}
-use Rattle.lab_texts.specs.InLab.{InLab}
-use Rattle.lab_texts.proofs.LabLemmas.{one_in_lab}
+use Rattle.lab_runs.specs.Labels.{UnnamedStops, observer_option}
+use Rattle.lab_runs.proofs.NameLemmas.{one_unnamed_stop, unnamed_goes}
 use Rattle.lab_why.proofs.OneOrigins.{one_text}
 use Rattle.lab_steady.specs.Judged.{IsJudged, told, top_of}
 use Rattle.lab_steady.specs.Blame.{blamed_of}
 use Rattle.lab_steady.specs.Text.{no_text}
 use Rattle.lab_steady.specs.Why.{TellsVariable, TellsBlamed, TellsNo}
-use Rattle.lab_steady.specs.Constant.{CostingStops, costing_of}
-use Rattle.lab_steady.specs.Answer.{Names, Infers, IsYes, IsNo, IsAnswered, OfProgram, Steadies, SteadiesBy}
+use Rattle.lab_steady.specs.Constant.{CostingStops, costing_of, no_operator}
+use Rattle.lab_steady.specs.Answer.{Names, Infers, IsYes, IsNo, IsAnswered, parts_option, OfProgram, Steadies, SteadiesBy}
 use Rattle.lab_steady.specs.Complete.{CanJudge, SteadyGoes}
 use Rattle.lab_steady.proofs.OneJudged.{one_judged}
 use Rattle.lab_steady.proofs.Nos.{TellsBy}
@@ -125,12 +124,12 @@ module _ (costing : Costing) where
     program_one : (text : List ℕ) (p : Syntax) (s u : Status) (t x : List ℕ) → IsOrder p.order → OfProgram costing text p observer parts whole s t
         → OfProgram costing text p observer parts whole u x → Same s u t x
     program_one text p s u t x order =
-        then_one (ObserverStops p.order (Some observer)) (Names p.order observer)
-        (λ o. Then (ObserverStops p.order (Some parts)) (Names p.order parts) (λ h. Rest text p o h)) s u t x
-        (one_observer_stop p.order (Some observer) s u t x) (λ o v y. observer_goes p.order (Some observer) (Some o) v y)
+        then_one (UnnamedStops observer_option p.order (Some observer)) (Names p.order observer)
+        (λ o. Then (UnnamedStops parts_option p.order (Some parts)) (Names p.order parts) (λ h. Rest text p o h)) s u t x
+        (one_unnamed_stop observer_option p.order (Some observer) s u t x) (λ o v y. unnamed_goes observer_option p.order (Some observer) (Some o) v y)
         (λ a b. one_name p.order observer a b order) (λ o names.
-        then_one (ObserverStops p.order (Some parts)) (Names p.order parts) (λ h. Rest text p o h) s u t x
-        (one_observer_stop p.order (Some parts) s u t x) (λ h v y. observer_goes p.order (Some parts) (Some h) v y)
+        then_one (UnnamedStops parts_option p.order (Some parts)) (Names p.order parts) (λ h. Rest text p o h) s u t x
+        (one_unnamed_stop parts_option p.order (Some parts) s u t x) (λ h v y. unnamed_goes parts_option p.order (Some parts) (Some h) v y)
         (λ a b. one_name p.order parts a b order) (λ h names. rest_one text p o h s u t x order))
 
   module _ (file observer parts : List ℕ) (whole : Bool) where
@@ -168,11 +167,12 @@ module _ (costing : Costing) where
       let order : IsOrder p.order = program_order _ p can.reads.spelled in
       then_ends (ProgramStops (Rises file) (content file)) (Reads (content file)) (Sourced file observer parts whole content) s e t
       p can.reads (one_program (content file) known) (program_goes (Rises file) (content file) p s t n known can.reads)
-      (λ k. then_ends (ObserverStops p.order (Some observer)) (Names p.order observer)
-      (λ o. Then (ObserverStops p.order (Some parts)) (Names p.order parts) (λ h. Rest observer parts whole k.0.bytes p o h)) s e t
-      can.o can.names_observer (λ a b. one_name p.order observer a b order) (observer_goes p.order (Some observer) (Some can.o) s t can.names_observer)
-      (then_ends (ObserverStops p.order (Some parts)) (Names p.order parts) (λ h. Rest observer parts whole k.0.bytes p can.o h) s e t
-      can.h can.names_parts (λ a b. one_name p.order parts a b order) (observer_goes p.order (Some parts) (Some can.h) s t can.names_parts)
+      (λ k. then_ends (UnnamedStops observer_option p.order (Some observer)) (Names p.order observer)
+      (λ o. Then (UnnamedStops parts_option p.order (Some parts)) (Names p.order parts) (λ h. Rest observer parts whole k.0.bytes p o h)) s e t
+      can.o can.names_observer (λ a b. one_name p.order observer a b order)
+      (unnamed_goes observer_option p.order (Some observer) (Some can.o) s t can.names_observer)
+      (then_ends (UnnamedStops parts_option p.order (Some parts)) (Names p.order parts) (λ h. Rest observer parts whole k.0.bytes p can.o h) s e t
+      can.h can.names_parts (λ a b. one_name p.order parts a b order) (unnamed_goes parts_option p.order (Some parts) (Some can.h) s t can.names_parts)
       (λ r. rest k.0.bytes r)) k.1)
     where
       rest : (text : List ℕ) → Rest observer parts whole text can.program can.o can.h s t → s ≡ e
@@ -203,7 +203,7 @@ module _ (costing : Costing) where
 
 -- ---- by the costs for which a word asks
 
-costing_stops : (w : Option (List ℕ)) (s : Status) (t : List ℕ) → CostingStops w s t → (s ≡ status.Usage) × (costing_of w ≡ None) × (t ≡ usage_text)
+costing_stops : (w : Option (List ℕ)) (s : Status) (t : List ℕ) → CostingStops w s t → (s ≡ status.Usage) × (costing_of w ≡ None) × (t ≡ no_operator)
 costing_stops w status.Usage t h = (refl, h.0, h.1)
 costing_stops w status.Done t h = absurd h
 costing_stops w status.Refused t h = absurd h
@@ -231,32 +231,26 @@ one_costing : (w : Option (List ℕ)) (a b : Costing) → costing_of w ≡ Some 
 one_costing w a b e f = same_Some a b (sym e ∙ f)
 
 module _ (constant : Option (List ℕ)) (file observer parts : List ℕ) (whole : Bool) where
-  by_one : (Rises : List ℕ → Type 0) (content : Content) (s u : Status) (t x : List ℕ) → (Rises file → ⊥) → IsKnown (content file)
+  pub one_in : (Rises : List ℕ → Type 0) (content : Content) (s u : Status) (t x : List ℕ) → (Rises file → ⊥) → IsKnown (content file)
       → SteadiesBy constant Rises content file observer parts whole s t → SteadiesBy constant Rises content file observer parts whole u x → Same s u t x
-  by_one Rises content s u t x n known =
+  one_in Rises content s u t x n known =
       then_one (CostingStops constant) (λ c. costing_of constant ≡ Some c) (λ c. Steadies c Rises content file observer parts whole) s u t x
       (one_costing_stop constant s u t x) (λ c v y. costing_goes constant c v y) (one_costing constant)
       (λ c is. steadies_one c file observer parts whole Rises content s u t x n known)
 
-  pub one_in : (Rises : List ℕ → Type 0) (content : Content) (s u : Status) (t x : List ℕ) → (Rises file → ⊥) → IsKnown (content file)
-      → InLab (SteadiesBy constant Rises content file observer parts whole) s t
-      → InLab (SteadiesBy constant Rises content file observer parts whole) u x → Same s u t x
-  one_in Rises content s u t x n known =
-      one_in_lab (SteadiesBy constant Rises content file observer parts whole) s u t x (λ y z. by_one Rises content s u y z n known)
-
 pub steady_ends : (constant : Option (List ℕ)) (Rises : List ℕ → Type 0) (content : Content) (file observer parts : List ℕ) (whole : Bool) (s e : Status)
     (t : List ℕ) → (Rises file → ⊥) → IsKnown (content file) → SteadyGoes constant (content file) observer parts whole e
-    → InLab (SteadiesBy constant Rises content file observer parts whole) s t → s ≡ e
+    → SteadiesBy constant Rises content file observer parts whole s t → s ≡ e
 steady_ends constant Rises content file observer parts whole s status.Done t n known goes h =
-    then_ends goes.0 (CostingStops constant) (λ c. costing_of constant ≡ Some c) (λ c. Steadies c Rises content file observer parts whole) s status.Done h.0
-    goes.0 goes.1 (one_costing constant) (costing_goes constant goes.0 s h.0 goes.1)
-    (judged_ends goes.0 Rises content file observer parts whole s status.Done h.0 n known goes.2
-    (λ text. yes_ends goes.0 text goes.2.labelled goes.2.o.number goes.2.h.number whole s h.0 goes.3)) h.1
+    then_ends goes.0 (CostingStops constant) (λ c. costing_of constant ≡ Some c) (λ c. Steadies c Rises content file observer parts whole) s status.Done t
+    goes.0 goes.1 (one_costing constant) (costing_goes constant goes.0 s t goes.1)
+    (judged_ends goes.0 Rises content file observer parts whole s status.Done t n known goes.2
+    (λ text. yes_ends goes.0 text goes.2.labelled goes.2.o.number goes.2.h.number whole s t goes.3)) h
 steady_ends constant Rises content file observer parts whole s status.Refused t n known goes h =
-    then_ends goes.0 (CostingStops constant) (λ c. costing_of constant ≡ Some c) (λ c. Steadies c Rises content file observer parts whole) s status.Refused h.0
-    goes.0 goes.1 (one_costing constant) (costing_goes constant goes.0 s h.0 goes.1)
-    (judged_ends goes.0 Rises content file observer parts whole s status.Refused h.0 n known goes.2
-    (λ text. no_ends goes.0 text goes.2.labelled goes.2.o.number goes.2.h.number whole s h.0 goes.3)) h.1
+    then_ends goes.0 (CostingStops constant) (λ c. costing_of constant ≡ Some c) (λ c. Steadies c Rises content file observer parts whole) s status.Refused t
+    goes.0 goes.1 (one_costing constant) (costing_goes constant goes.0 s t goes.1)
+    (judged_ends goes.0 Rises content file observer parts whole s status.Refused t n known goes.2
+    (λ text. no_ends goes.0 text goes.2.labelled goes.2.o.number goes.2.h.number whole s t goes.3)) h
 steady_ends constant Rises content file observer parts whole s status.Syntax t n known goes h = absurd goes
 steady_ends constant Rises content file observer parts whole s status.Starts t n known goes h = absurd goes
 steady_ends constant Rises content file observer parts whole s status.Usage t n known goes h = absurd goes

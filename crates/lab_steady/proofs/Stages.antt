@@ -1,5 +1,5 @@
 -- The stages of `steady`, from a program to what is told.
-use Rattle.std.proofs.Common.{◌≡◌, ◌≤◌, ℕ, List, length, Bool, Option, Some, refl, sym, subst, inl, inr}
+use Rattle.std.proofs.Common.{◌≡◌, ◌≤◌, ℕ, List, length, Bool, Option, Some, Result, Ok, Err, IfErr, IsErrAnd, refl, sym, subst, inl, inr}
 use Rattle.tim_base.specs.Told.{limit}
 use Rattle.label_lattice.specs.declared.label.Label.{Label}
 use Rattle.label_lattice.specs.Order.{Order}
@@ -14,20 +14,31 @@ use Rattle.tool_texts.specs.declared.stop.Stop.{Stop}
 use Rattle.tool_texts.specs.Ends.{IsStop, status_of, stop_text}
 use Rattle.tool_texts.proofs.EndLemmas.{broke_map}
 use Rattle.tool_stages.specs.Content.{Content}
-use Rattle.tool_stages.specs.Stages.{Reads, ObserverStops, ImageStops}
+use Rattle.tool_stages.specs.Stages.{Reads, ImageStops}
+use Rattle.lab_runs.specs.Labels.{UnnamedStops, observer_option}
 use Rattle.lab_steady.specs.Constant.{CostingStops, costing_of}
-use Rattle.lab_steady.specs.Answer.{Names, IsAnswered, OfProgram, Steadies, SteadiesBy}
+use Rattle.lab_steady.specs.Answer.{Names, IsAnswered, parts_option, OfProgram, Steadies, SteadiesBy}
 
 module _ (costing : Costing) where
+  -- where the word of `--observer` names no label, the stop that is handed on is for that
+  pub observer_stop : {T : Type 0} (p : Syntax) (order : Order) (text observer parts : List ℕ) (whole : Bool) → order ≡ p.order → (r : Result T Stop)
+      (e : Stop) → IsErrAnd r (λ x. x ≡ e) → IsStop (UnnamedStops observer_option order (Some observer)) e
+      → IfErr r (IsStop (OfProgram costing text p observer parts whole))
+  observer_stop p order text observer parts whole same (Ok x) e is h = tt
+  observer_stop p order text observer parts whole same (Err x) e is h =
+      subst (λ (z : Stop). IsStop (OfProgram costing text p observer parts whole) z) (sym is)
+      (broke_map (UnnamedStops observer_option p.order (Some observer)) (OfProgram costing text p observer parts whole) (status_of e) (stop_text e)
+      (λ k. inl k) (subst (λ (z : Order). IsStop (UnnamedStops observer_option z (Some observer)) e) same h))
+
   module _ (p : Syntax) (order : Order) (text observer parts : List ℕ) (whole : Bool) (same : order ≡ p.order) (o : Label)
       (names : Names order observer o) where
     names_o : Names p.order observer o
     names_o = subst (λ (z : Order). Names z observer o) same names
 
-    pub parts_stop : (e : Stop) → IsStop (ObserverStops order (Some parts)) e → IsStop (OfProgram costing text p observer parts whole) e
+    pub parts_stop : (e : Stop) → IsStop (UnnamedStops parts_option order (Some parts)) e → IsStop (OfProgram costing text p observer parts whole) e
     parts_stop e h =
-        broke_map (ObserverStops p.order (Some parts)) (OfProgram costing text p observer parts whole) (status_of e) (stop_text e)
-        (λ k. inr (o, names_o, inl k)) (subst (λ (z : Order). IsStop (ObserverStops z (Some parts)) e) same h)
+        broke_map (UnnamedStops parts_option p.order (Some parts)) (OfProgram costing text p observer parts whole) (status_of e) (stop_text e)
+        (λ k. inr (o, names_o, inl k)) (subst (λ (z : Order). IsStop (UnnamedStops parts_option z (Some parts)) e) same h)
 
     module _ (h : Label) (agreed : Names order parts h) (q : LabelledProgram) (program : q.program ≡ p) (least : IsLeast p q.labels) where
       names_h : Names p.order parts h

@@ -1,5 +1,5 @@
 -- The answer to `steady`: its status and its text, from what the file is told to hold.
-use Rattle.std.specs.Prelude.{◌≡◌, ◌<◌, ℕ, List, Bool, Option, Some, None}
+use Rattle.std.specs.Prelude.{◌≡◌, ◌<◌, ℕ, List, Bool, Option, Some, None, codes}
 use Rattle.label_lattice.specs.declared.label.Label.{Label}
 use Rattle.label_lattice.specs.Order.{Order, name_of}
 use Rattle.mit_syntax.specs.declared.token.Token.{Token}
@@ -12,8 +12,8 @@ use Rattle.steady_code.specs.declared.costing.Costing.{Costing}
 use Rattle.tool_texts.specs.declared.status.Status.{Status}
 use Rattle.tool_texts.specs.declared.status.Status.TheVariants as status
 use Rattle.tool_stages.specs.Content.{Content}
-use Rattle.tool_stages.specs.Stages.{Then, Reads, ProgramStops, ObserverStops, HasImage, ImageStops}
-use Rattle.lab_texts.specs.InLab.{InLab}
+use Rattle.tool_stages.specs.Stages.{Then, Reads, ProgramStops, HasImage, ImageStops}
+use Rattle.lab_runs.specs.Labels.{UnnamedStops, observer_option}
 use Rattle.lab_steady.specs.Constant.{costing_of, CostingStops}
 use Rattle.lab_steady.specs.Judged.{IsJudged, told, top_of}
 use Rattle.lab_steady.specs.Text.{yes_text}
@@ -48,12 +48,15 @@ IsAnswered costing text q o h whole status.Done t = IsYes costing q o h whole t
 IsAnswered costing text q o h whole status.Refused t = IsNo costing text q o h whole t
 IsAnswered costing text q o h whole _ t = ⊥
 
+abbrev pub parts_option : List ℕ
+parts_option = codes "parts"
+
 -- What is told of a program that a text spells, in the order of its refusals: for the observer with a name, where
 -- environments agree in what they keep for labels that flow to the label with another name, by these costs of operators.
 abbrev pub OfProgram : Costing → List ℕ → Syntax → List ℕ → List ℕ → Bool → Status → List ℕ → Type 0
 OfProgram costing text p observer parts whole =
-    Then (ObserverStops p.order (Some observer)) (Names p.order observer) (λ o.
-    Then (ObserverStops p.order (Some parts)) (Names p.order parts) (λ h s t.
+    Then (UnnamedStops observer_option p.order (Some observer)) (Names p.order observer) (λ o.
+    Then (UnnamedStops parts_option p.order (Some parts)) (Names p.order parts) (λ h s t.
     (q : LabelledProgram) × Infers p q × Then (ImageStops q) (HasImage q) (λ code. IsAnswered costing text q o.number h.number whole) s t))
 
 -- and of that of a file; `Rises` tells the names whose counts of faults rose
@@ -75,4 +78,4 @@ SteadiesBy constant Rises content file observer parts whole =
 -- the answer of `steady`
 abbrev pub IsSteadyAnswer : Option (List ℕ) → (List ℕ → Type 0) → Content → List ℕ → List ℕ → Option (List ℕ) → Bool → Status → List ℕ → Type 0
 IsSteadyAnswer constant Rises content file observer parts whole =
-    InLab (SteadiesBy constant Rises content file observer (parts_or parts observer) whole)
+    SteadiesBy constant Rises content file observer (parts_or parts observer) whole

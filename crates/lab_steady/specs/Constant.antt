@@ -1,12 +1,12 @@
 -- From the word of `--constant` to the costs of operators that are asked about.
-use Rattle.std.specs.Prelude.{◌≡◌, ℕ, List, [], ◌∷◌, true, false, Option, Some, None, codes, bytes_eq, eqb, option_and_then, option_map, if◌then◌else◌}
+use Rattle.std.specs.Prelude.{◌≡◌, ℕ, List, [], ◌∷◌, ◌++◌, true, false, Option, Some, None, codes, bytes_eq, eqb, option_and_then, option_map, if◌then◌else◌}
 use Rattle.std.specs.List.{slice_split}
 use Rattle.steady_code.specs.declared.costing.Constant.{Constant}
 use Rattle.steady_code.specs.declared.costing.Costing.{Costing}
 use Rattle.steady_code.specs.declared.costing.Costing.TheVariants.{Table, Only}
 use Rattle.tool_texts.specs.declared.status.Status.{Status}
 use Rattle.tool_texts.specs.declared.status.Status.TheVariants as status
-use Rattle.tool_texts.specs.Texts.{usage_text}
+use Rattle.lab_texts.specs.Names.{after_blanks}
 
 -- no operator is named
 abbrev pub none_named : Constant
@@ -35,7 +35,15 @@ abbrev pub costing_of : Option (List ℕ) → Option Costing
 costing_of None = Some Table
 costing_of (Some word) = option_map (λ c. Only c) (constant_of word)
 
--- a word that names something else is refused
+-- the names of the operators
+abbrev pub operators : List (List ℕ)
+operators = codes "add" ∷ codes "subtract" ∷ codes "multiply" ∷ codes "divide" ∷ codes "remainder" ∷ codes "compare" ∷ []
+
+-- the lines on a word that names something else
+unfoldable pub no_operator : List ℕ
+no_operator = codes "constant: unknown name\nnames" ++ (after_blanks operators ++ codes "\n")
+
+-- such a word is refused
 abbrev pub CostingStops : Option (List ℕ) → Status → List ℕ → Type 0
-CostingStops word status.Usage t = (costing_of word ≡ None) × (t ≡ usage_text)
+CostingStops word status.Usage t = (costing_of word ≡ None) × (t ≡ no_operator)
 CostingStops word _ t = ⊥

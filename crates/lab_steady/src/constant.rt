@@ -3,7 +3,7 @@
 ghost use Rattle.std.specs.Prelude.{◌≡◌, Some, IfOk, IfErr, eqb, map, option_map};
 ghost use Rattle.std.specs.List.{slice_split};
 ghost use Rattle.tool_texts.specs.Ends.{IsStop};
-ghost use Rattle.lab_steady.specs.Constant.{CostingStops, constant_of, costing_of, with_name as name_added, with_names as names_added};
+ghost use Rattle.lab_steady.specs.Constant.{CostingStops, constant_of, costing_of, no_operator, with_name as name_added, with_names as names_added};
 
 use std::alloc::{AllocError, Global};
 use steady_code::costing::{Constant, Costing};
@@ -83,10 +83,17 @@ fn constant_named(alloc: Global, word: &str) -> Result<Option<Constant>, AllocEr
     Ok(with_names(parts.as_slice(), NONE_NAMED))
 }
 
+/// The lines on a word that names something else than operators.
+fn no_operator() -> &'static [u8]
+    ensures { result.now ≡ no_operator }
+{
+    b"constant: unknown name\nnames add subtract multiply divide remainder compare\n"
+}
+
 /// The costs of operators that are asked about.
 ///
 /// # Errors
-/// Stops with `Usage` where the word names something else than operators, or with `Memory`.
+/// Stops with `Usage` and the operators that there are where the word names something else, or with `Memory`.
 pub(crate) fn costing_named(alloc: Global, word: Option<&str>) -> Result<Costing, Stop>
     ensures ok { IfOk result (λ c. costing_of (option_map (λ s. s.now) word.entry) ≡ Some c) }
     ensures stop { IfErr result (IsStop (CostingStops (option_map (λ s. s.now) word.entry))) }
@@ -99,6 +106,9 @@ pub(crate) fn costing_named(alloc: Global, word: Option<&str>) -> Result<Costing
     };
     match constant {
         Some(constant) => Ok(Costing::Only(constant)),
-        None => Err(Stop::Usage),
+        None => match Vec::from_slice(alloc, no_operator()) {
+            Ok(lines) => Err(Stop::Misnamed(lines)),
+            Err(_) => Err(no_memory()),
+        },
     }
 }

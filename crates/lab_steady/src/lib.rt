@@ -7,7 +7,6 @@ mod constant;
 mod judge;
 pub mod laws;
 mod mend;
-mod names;
 mod no;
 mod owner;
 mod program;

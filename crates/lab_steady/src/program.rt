@@ -14,8 +14,8 @@ ghost use Rattle.lab_steady.specs.Told.{status_told, text_told};
 
 use crate::constant::costing_named;
 use crate::judge::{Verdict, judge};
-use crate::names::label_named;
 use code_lower::lower::LowerFault;
+use lab_runs::label::label_named;
 use lab_why::source::{Source, read_source};
 use label_infer::infer::infer;
 use mit_syntax::program::Program;
@@ -54,8 +54,8 @@ fn program_told(
     ensures stop { IfErr result (IsStop (OfProgram costing text.now program observer.now parts.now whole)) }
 {
     let lattice = program.lattice();
-    let observer = label_named(lattice, observer)?;
-    let parts = match label_named(lattice, parts) {
+    let observer = label_named(alloc, lattice, b"observer", observer)?;
+    let parts = match label_named(alloc, lattice, b"parts", parts) {
         Ok(label) => label,
         Err(stop) => return Err(stop),
     };

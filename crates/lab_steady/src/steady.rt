@@ -9,11 +9,10 @@ ghost use Rattle.lab_steady.specs.Answer.{IsSteadyAnswer, parts_or};
 
 use crate::judge::Verdict;
 use crate::program::steady_by;
-use lab_texts::finish::stop;
 use std::alloc::Global;
 use tim_base::shelf::Shelf;
 use tim_base::sink::Sink;
-use tool_texts::finish::finish;
+use tool_texts::finish::{finish, stop};
 use tool_texts::status::Status;
 
 // The name of the label below which environments agree.

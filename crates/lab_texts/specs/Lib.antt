@@ -1,1 +1,2 @@
-pub mod InLab
+pub mod Usage
+pub mod Names

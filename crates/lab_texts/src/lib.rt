@@ -1,4 +1,4 @@
-//! The messages of the program `lab`: the tool's, with a usage text of its own.
+//! What the program `lab` tells in place of the tool's own: a usage text.
 #![tactic(auto)]
 
-pub mod finish;
+pub mod usage;

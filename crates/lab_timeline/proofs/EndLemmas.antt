@@ -1,5 +1,5 @@
 -- How a call of `timeline` ends.
-use Rattle.std.proofs.Common.{◌≡◌, ◌≢◌, ◌⊎◌, ℕ, List, [], ◌∷◌, Bool, Option, inl, inr, refl}
+use Rattle.std.proofs.Common.{◌≡◌, ◌≢◌, ◌⊎◌, ℕ, List, [], Bool, Option, inl, inr, refl}
 use Rattle.std.specs.Io.KnownBytes.{Appends}
 use Rattle.tim_base.specs.Sinks.{AppendsPrefix}
 use Rattle.label_lattice.specs.declared.label.Label.{Label}
@@ -13,7 +13,6 @@ use Rattle.tool_texts.specs.declared.stop.Stop.{Stop}
 use Rattle.tool_texts.specs.Ends.{EndsBy, IsStop, status_of, stop_text}
 use Rattle.tool_texts.specs.Texts.{memory_line}
 use Rattle.tool_stages.specs.Content.{Content}
-use Rattle.lab_texts.specs.InLab.{lab_text}
 use Rattle.lab_runs.specs.Shown.{Shown, HasRuns, RunsStop}
 use Rattle.lab_runs.proofs.EndLemmas.{runs_stop, runs_done, runs_broke_head, runs_broke, runs_broke_some, runs_short}
 use Rattle.lab_timeline.specs.Timed.{AreRuns, AreTimelines, TellsTimelines, TimelinesBefore}
@@ -32,8 +31,8 @@ module _ (Rises : List ℕ → Type 0) (content : Content) (file starts : List �
 
   -- what stops before the runs
   pub timeline_stops : (old new : Option (List ℕ)) (stop : Stop) (r : Status) → IsStop (RunsStop refused Rises content file starts observer) stop
-      → (r ≢ status.WriteFault → (r ≡ status_of stop) × Appends old new (lab_text (status_of stop) (stop_text stop)))
-      → (r ≡ status.WriteFault → AppendsPrefix old new (lab_text (status_of stop) (stop_text stop)))
+      → (r ≢ status.WriteFault → (r ≡ status_of stop) × Appends old new (stop_text stop))
+      → (r ≡ status.WriteFault → AppendsPrefix old new (stop_text stop))
       → EndsBy old new Before Answer r
   timeline_stops = runs_stop refused Rises content file starts observer (AreRuns e budget) (AreTimelines e budget)
 

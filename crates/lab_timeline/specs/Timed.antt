@@ -21,7 +21,6 @@ use Rattle.tool_stages.specs.declared.envs.Environment.{Environment}
 use Rattle.tool_texts.specs.declared.status.Status.{Status}
 use Rattle.tool_stages.specs.Content.{Content}
 use Rattle.tool_stages.specs.Envs.{environment, told_in}
-use Rattle.lab_texts.specs.InLab.{InLab}
 use Rattle.lab_runs.specs.Runs.{texts}
 use Rattle.lab_runs.specs.Shown.{ShowsRuns, ShowsBefore}
 
@@ -63,7 +62,7 @@ pub record AreTimelines (e : Environment) (t : ℕ) (q : LabelledProgram) (o : O
 
 -- the answer of `timeline`, where refused programs are asked for and where not
 abbrev pub TellsTimelines : (List ℕ → Type 0) → Content → List ℕ → List ℕ → Option (List ℕ) → Environment → ℕ → Bool → Status → List ℕ → Type 0
-TellsTimelines Rises content file starts observer e t refused = InLab (ShowsRuns refused Rises content file starts observer (AreTimelines e t))
+TellsTimelines Rises content file starts observer e t refused = ShowsRuns refused Rises content file starts observer (AreTimelines e t)
 
 -- what may stand before the line for memory
 abbrev pub TimelinesBefore : Content → List ℕ → List ℕ → Option (List ℕ) → Environment → ℕ → Bool → List ℕ → Type 0

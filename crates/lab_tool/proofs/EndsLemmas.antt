@@ -19,12 +19,13 @@ use Rattle.lab_steady.proofs.OneAnswer.{steady_ends}
 use Rattle.lab_timeline.specs.Timed.{AreTimelines, TimelinesBefore}
 use Rattle.lab_tune.specs.Complete.{CanTune}
 use Rattle.lab_tune.proofs.Answering.{completes as tune_completes}
-use Rattle.lab_words.specs.QuestionAsked.{Asked, why, why_starts, seen, timeline, bound, steady, leak, tune, check, help, version}
+use Rattle.lab_words.specs.QuestionAsked.{Asked, why, why_starts, why_audit, seen, timeline, bound, steady, leak, tune, check, help, version}
 use Rattle.lab_tool.specs.Answers.{Before, BeforeIn, IsAnswer, IsAnswerIn}
 use Rattle.lab_tool.specs.Complete.{CanEnd, GoesIn, IsDoneIf, Names, files_of, own_files}
 use Rattle.lab_tool.specs.Machines.{machine_in}
 use Rattle.lab_tool.proofs.AskedLemmas.{nothing_before_in}
 use Rattle.lab_tool.proofs.OnMachine.{ends_on, split_files}
+use Rattle.lab_tool.proofs.ReadyLemmas.{ready_done}
 use Rattle.lab_tool.proofs.StartsLemmas.{starts_ends}
 use Rattle.lab_tool.proofs.WhyLemmas.{check_ends, origin_ends, why_ends}
 
@@ -78,6 +79,13 @@ completes_in env old new Rises content (why_starts file starts) r Rose ends writ
     let m = second_file Rises content file starts [] none known in
     ends_as old new (BeforeIn env content (why_starts file starts)) (IsAnswerIn env Rises content (why_starts file starts)) r e ends (λ f. n (write f))
     (λ t h. starts_ends Rises content file starts r e t k.0 m.0 k.1 m.1 can h)
+completes_in env old new Rises content (why_audit file starts observer machine budget) r Rose ends write e known can none n =
+    let k = first_file Rises content file (starts ∷ []) none known in
+    let m = second_file Rises content file starts [] none known in
+    done_if (CanBound content file starts observer env budget) r e can (λ goes.
+    ends_as old new (BeforeIn env content (why_audit file starts observer machine budget))
+    (IsAnswerIn env Rises content (why_audit file starts observer machine budget)) r status.Done ends (λ f. n (write f))
+    (λ t h. ready_done Rises content file starts observer env budget r t k.0 m.0 goes h))
 completes_in env old new Rises content (seen file starts observer machine budget refused) r Rose ends write e known can none n =
     let k = first_file Rises content file (starts ∷ []) none known in
     let m = second_file Rises content file starts [] none known in
@@ -102,16 +110,16 @@ completes_in env old new Rises content (steady file observer parts constant whol
     ends_as old new (BeforeIn env content (steady file observer parts constant whole))
     (IsAnswerIn env Rises content (steady file observer parts constant whole)) r e
     ends (λ f. n (write f)) (λ t h. steady_ends constant Rises content file observer (parts_or parts observer) whole r e t k.0 k.1 can h)
-completes_in env old new Rises content (leak file starts observer machine budget) r Rose ends write e known can none n =
+completes_in env old new Rises content (leak file starts observer machine budget refused) r Rose ends write e known can none n =
     let k = first_file Rises content file (starts ∷ []) none known in
     let m = second_file Rises content file starts [] none known in
-    done_if (CanLeak content file starts observer env budget) r e can (λ goes.
-    leak_completes old new Rises content file starts observer env budget r Rose ends write goes k.0 m.0 n)
-completes_in env old new Rises content (tune file starts observer machine budget mark) r Rose ends write e known can none n =
+    done_if (CanLeak refused content file starts observer env budget) r e can (λ goes.
+    leak_completes old new refused Rises content file starts observer env budget r Rose ends write goes k.0 m.0 n)
+completes_in env old new Rises content (tune file starts observer machine budget mark bits) r Rose ends write e known can none n =
     let k = first_file Rises content file (starts ∷ []) none known in
     let m = second_file Rises content file starts [] none known in
-    done_if (CanTune content file starts observer env budget mark) r e can (λ goes.
-    tune_completes old new Rises content file starts observer env budget mark r Rose ends write goes k.0 m.0 n)
+    done_if (CanTune content file starts observer env budget mark bits) r e can (λ goes.
+    tune_completes old new Rises content file starts observer env budget mark bits r Rose ends write goes k.0 m.0 n)
 completes_in env old new Rises content (check file) r Rose ends write e known can none n =
     let k = first_file Rises content file [] none known in
     ends_as old new (BeforeIn env content (check file)) (IsAnswerIn env Rises content (check file)) r e ends (λ f. n (write f))

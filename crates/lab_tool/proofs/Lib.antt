@@ -5,5 +5,6 @@ pub mod MachineEnds
 pub mod AskedLemmas
 pub mod WhyLemmas
 pub mod StartsLemmas
+pub mod ReadyLemmas
 pub mod EndsLemmas
 pub mod OneAnswer

@@ -12,7 +12,7 @@ use Rattle.tool_texts.specs.declared.status.Status.{Status}
 use Rattle.tool_texts.specs.declared.status.Status.TheVariants as status
 use Rattle.tool_texts.specs.declared.stop.Stop.{Stop}
 use Rattle.tool_texts.specs.Ends.{Broke, EndsBy, IsStop, status_of, stop_text}
-use Rattle.tool_texts.proofs.EndLemmas.{ends_finish, ends_map, tells_broke}
+use Rattle.tool_texts.proofs.EndLemmas.{ends_map, ends_stop}
 use Rattle.tool_stages.specs.Content.{Content}
 use Rattle.tool_stages.specs.Fetches.{Fetches, HasFetched}
 use Rattle.tool_stages.specs.declared.envs.Environment.{Environment}
@@ -20,7 +20,6 @@ use Rattle.tool_stages.specs.declared.envs.Environment.TheVariants.{Described}
 use Rattle.tool_stages.proofs.FetchLemmas.{begun_then, fetch_stop, fetched_by}
 use Rattle.tool_stages.proofs.StopLemmas.{rose_since}
 use Rattle.machine_stage.specs.Stage.{MachineIs, MachineStops}
-use Rattle.lab_texts.specs.InLab.{lab_text}
 use Rattle.lab_words.specs.QuestionAsked.{Asked, described}
 use Rattle.lab_tool.specs.Answers.{BeforeIn, IsAnswerIn}
 use Rattle.lab_tool.specs.Machines.{BeforeOn, OnMachine}
@@ -28,37 +27,17 @@ use Rattle.lab_tool.proofs.RiseLemmas.{answer_rises}
 
 -- ---- no machine
 
--- the lab tells a stop as the tool does, and none is a write fault
-machine_text : (R : Type 0) (c : Option (Option (List ℕ))) (s : Status) (t : List ℕ) → Broke (MachineStops R c) s t → lab_text s t ≡ t
-machine_text R c status.Done t h = refl
-machine_text R c status.Refused t h = refl
-machine_text R c status.Syntax t h = refl
-machine_text R c status.Starts t h = refl
-machine_text R c status.Usage t h = absurd h
-machine_text R c status.ReadFault t h = refl
-machine_text R c status.WriteFault t h = refl
-machine_text R c status.TooLong t h = refl
-machine_text R c status.Budget t h = refl
-machine_text R c status.Disagree t h = refl
-machine_text R c status.Unfinished t h = refl
-machine_text R c status.Memory t h = refl
-machine_text R c status.Rejected t h = refl
-
+-- no stop is a write fault
 pub no_write : (R : Type 0) (c : Option (Option (List ℕ))) (e : Stop) → IsStop (MachineStops R c) e → status_of e ≢ status.WriteFault
 no_write R c e h is = subst (λ (s : Status). Broke (MachineStops R c) s (stop_text e)) is h
 
 pub stop_ends : (old new : Option (List ℕ)) (Rises : List ℕ → Type 0) (content : Content) (file : List ℕ) (Before : Environment → List ℕ → Type 0)
     (Answer : Environment → Status → List ℕ → Type 0) (e : Stop) (r : Status) → IsStop (MachineStops (Rises file) (content file)) e
-    → (r ≢ status.WriteFault → (r ≡ status_of e) × Appends old new (lab_text (status_of e) (stop_text e)))
-    → (r ≡ status.WriteFault → AppendsPrefix old new (lab_text (status_of e) (stop_text e)))
+    → (r ≢ status.WriteFault → (r ≡ status_of e) × Appends old new (stop_text e)) → (r ≡ status.WriteFault → AppendsPrefix old new (stop_text e))
     → EndsBy old new (BeforeOn content (described file) Before) (OnMachine Rises content (described file) Answer) r
-stop_ends old new Rises content file Before Answer e r h told prefix =
-    let text = machine_text (Rises file) (content file) (status_of e) (stop_text e) h in
-    ends_finish old new (BeforeOn content (described file) Before) (OnMachine Rises content (described file) Answer) (status_of e) (stop_text e) r
-    (tells_broke (BeforeOn content (described file) Before) (MachineStops (Rises file) (content file)) (OnMachine Rises content (described file) Answer)
-    (status_of e) (stop_text e) (inl refl) (λ u k. inl k) h)
-    (λ n. ((told n).0, subst (λ (z : List ℕ). Appends old new z) text (told n).1))
-    (λ w. subst (λ (z : List ℕ). AppendsPrefix old new z) text (prefix w))
+stop_ends old new Rises content file Before Answer e r =
+    ends_stop old new (BeforeOn content (described file) Before) (MachineStops (Rises file) (content file))
+    (OnMachine Rises content (described file) Answer) (status_of e) (stop_text e) r (inl refl) (λ u k. inl k)
 
 pub stop_fetched : (file : List ℕ) (others : List (List ℕ)) (old new : Option (List Fetched)) (made : Result MakeHardware Stop) (e : Stop) (r : Status)
     → made ≡ Err e → Fetches (file ∷ []) old new made → (r ≢ status.WriteFault → r ≡ status_of e) → HasFetched (file ∷ others) r old new

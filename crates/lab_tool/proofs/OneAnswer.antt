@@ -1,5 +1,5 @@
 -- A question has one answer at most.
-use Rattle.std.proofs.Common.{◌≡◌, ℕ, List, [], ◌∷◌, Option, Some, None, sym, ap, subst, ◌∙◌, inl, inr}
+use Rattle.std.proofs.Common.{◌≡◌, ℕ, List, [], ◌∷◌, Option, Some, None, sym, subst, ◌∙◌, inl, inr}
 use Rattle.std.proofs.lemmas.Option.{none-some, same_Some}
 use Rattle.tim_base.specs.Faults.{Rose}
 use Rattle.mit_syntax.specs.Program.{Syntax}
@@ -11,16 +11,15 @@ use Rattle.tool_stages.specs.Accepted.{HasChecked}
 use Rattle.tool_stages.specs.Stages.{Then, Types}
 use Rattle.tool_stages.specs.Content.{Content, IsKnown, AreKnown, NoneRises}
 use Rattle.tool_stages.proofs.ChainLemmas.{first_file, second_file, reads_one}
-use Rattle.lab_words.specs.QuestionAsked.{Asked, why, why_starts, seen, timeline, bound, steady, leak, tune, check, help, version}
-use Rattle.lab_bound.proofs.Single.{one_bound_in_lab}
+use Rattle.lab_words.specs.QuestionAsked.{Asked, why, why_starts, why_audit, seen, timeline, bound, steady, leak, tune, check, help, version}
+use Rattle.lab_bound.proofs.Single.{bound_once}
 use Rattle.lab_leak.proofs.Single.{one_leak_in_lab}
 use Rattle.lab_check.proofs.OneFound.{one_check}
 use Rattle.lab_seen.proofs.OneSeen.{seen_once}
 use Rattle.lab_steady.specs.Answer.{parts_or}
 use Rattle.lab_steady.proofs.OneAnswer.{one_in}
 use Rattle.lab_timeline.proofs.OneTimeline.{timeline_once}
-use Rattle.lab_tune.proofs.Single.{one_tune_in_lab}
-use Rattle.lab_texts.specs.InLab.{lab_text}
+use Rattle.lab_tune.proofs.Single.{one_tune}
 use Rattle.lab_why.proofs.FaultLemmas.{why_one}
 use Rattle.lab_why.proofs.OneReason.{one_reason}
 use Rattle.lab_why.proofs.OneOrigins.{one_origins}
@@ -32,6 +31,7 @@ use Rattle.lab_tool.specs.Answers.{IsAnswer, IsAnswerIn}
 use Rattle.lab_tool.specs.Complete.{files_of, own_files}
 use Rattle.lab_tool.specs.Machines.{machine_in}
 use Rattle.lab_tool.proofs.OnMachine.{one_on, split_files}
+use Rattle.lab_tool.proofs.ReadyLemmas.{ready_once}
 use Rattle.lab_tool.proofs.StartsLemmas.{starts_once}
 use Rattle.lab_tool.proofs.WhyLemmas.{is_typable, name_stops, reason_stops}
 
@@ -77,15 +77,20 @@ answers_one_in env content before now (why file None) s u t x known none h k =
 answers_one_in env content before now (why file (Some name)) s u t x known none h k =
     let rises = λ (name : List ℕ). Rose (before name) (now name) in
     let good = first_file rises content file [] none known in
-    let one = reads_one s u h.0 k.0 (rises file) (content file)
+    reads_one s u t x (rises file) (content file)
     (λ p. Then (NameStops p name) (λ spot. named p name ≡ Some spot) (λ spot s t. (s ≡ Done) × HasOrigins (content file) p name spot t)) good.0 good.1
-    (λ p o. origin_one (content file) p name s u h.0 k.0 (λ spot. one_origins (content file) p name spot h.0 k.0 good.1 o)) h.1 k.1 in
-    (one.0, h.2 ∙ ap (λ (z : Status). lab_text z h.0) one.0 ∙ ap (lab_text u) one.1 ∙ sym k.2)
+    (λ p o. origin_one (content file) p name s u t x (λ spot. one_origins (content file) p name spot t x good.1 o)) h k
 answers_one_in env content before now (why_starts file starts) s u t x known none h k =
     let rises = λ (name : List ℕ). Rose (before name) (now name) in
     let good = first_file rises content file (starts ∷ []) none known in
     let other = second_file rises content file starts [] none known in
     let one = starts_once rises content file starts s u t x good.0 other.0 good.1 other.1 h k in
+    one
+answers_one_in env content before now (why_audit file starts observer machine budget) s u t x known none h k =
+    let rises = λ (name : List ℕ). Rose (before name) (now name) in
+    let good = first_file rises content file (starts ∷ []) none known in
+    let other = second_file rises content file starts [] none known in
+    let one = ready_once rises content file starts observer env budget s u t x good.0 other.0 good.1 other.1 h k in
     one
 answers_one_in env content before now (seen file starts observer machine budget refused) s u t x known none h k =
     let rises = λ (name : List ℕ). Rose (before name) (now name) in
@@ -103,24 +108,24 @@ answers_one_in env content before now (bound file starts observer machine budget
     let rises = λ (name : List ℕ). Rose (before name) (now name) in
     let good = first_file rises content file (starts ∷ []) none known in
     let other = second_file rises content file starts [] none known in
-    let one = one_bound_in_lab content before now file starts observer env budget s u t x good.1 other.1 good.0 other.0 h k in
+    let one = bound_once content before now file starts observer env budget s u t x good.1 other.1 good.0 other.0 h k in
     one
 answers_one_in env content before now (steady file observer parts constant whole) s u t x known none h k =
     let rises = λ (name : List ℕ). Rose (before name) (now name) in
     let good = first_file rises content file [] none known in
     let one = one_in constant file observer (parts_or parts observer) whole rises content s u t x good.0 good.1 h k in
     one
-answers_one_in env content before now (leak file starts observer machine budget) s u t x known none h k =
+answers_one_in env content before now (leak file starts observer machine budget refused) s u t x known none h k =
     let rises = λ (name : List ℕ). Rose (before name) (now name) in
     let good = first_file rises content file (starts ∷ []) none known in
     let other = second_file rises content file starts [] none known in
-    let one = one_leak_in_lab content before now file starts observer env budget s u t x good.1 other.1 good.0 other.0 h k in
+    let one = one_leak_in_lab content before now file starts observer env budget refused s u t x good.1 other.1 good.0 other.0 h k in
     one
-answers_one_in env content before now (tune file starts observer machine budget mark) s u t x known none h k =
+answers_one_in env content before now (tune file starts observer machine budget mark bits) s u t x known none h k =
     let rises = λ (name : List ℕ). Rose (before name) (now name) in
     let good = first_file rises content file (starts ∷ []) none known in
     let other = second_file rises content file starts [] none known in
-    let one = one_tune_in_lab content before now file starts observer env budget mark s u t x good.1 other.1 good.0 other.0 h k in
+    let one = one_tune content before now file starts observer env budget mark bits s u t x good.1 other.1 good.0 other.0 h k in
     one
 answers_one_in env content before now (check file) s u t x known none h k =
     let rises = λ (name : List ℕ). Rose (before name) (now name) in

@@ -8,21 +8,22 @@ use Rattle.start_file.specs.Starts.{StartValue}
 use Rattle.tool_texts.specs.declared.status.Status.{Status}
 use Rattle.tool_texts.specs.declared.status.Status.TheVariants as status
 use Rattle.tool_stages.specs.declared.envs.Environment.{Environment}
-use Rattle.tool_stages.specs.Begins.{Prepares}
 use Rattle.tool_stages.specs.Content.{Content}
 use Rattle.tool_stages.specs.Stages.{ProgramStops}
 use Rattle.tool_stages.proofs.StopLemmas.{start_rise}
 use Rattle.lab_bound.specs.Answer.{HasBound}
-use Rattle.lab_leak.specs.Answer.{Leaks}
+use Rattle.lab_leak.specs.Answer.{IsLeakAnswer}
 use Rattle.space_stage.proofs.Stops.{given_rise}
 use Rattle.lab_check.proofs.FoundLemmas.{check_rise}
+use Rattle.lab_runs.specs.Labels.{NamesAndPrepares}
 use Rattle.lab_runs.specs.Shown.{OfRuns, ShowsRuns}
 use Rattle.lab_seen.specs.Seen.{AreLines}
 use Rattle.lab_timeline.specs.Timed.{AreTimelines}
 use Rattle.lab_tune.specs.Answer.{HasTune}
 use Rattle.lab_why.specs.Faulty.{WhyStops}
-use Rattle.lab_why.proofs.StartsLemmas.{taken_since}
-use Rattle.lab_words.specs.QuestionAsked.{Asked, why, why_starts, seen, timeline, bound, steady, leak, tune, check, help, version}
+use Rattle.lab_why.specs.Starts.{StartsStop}
+use Rattle.lab_why.proofs.StartsLemmas.{stop_since, taken_since}
+use Rattle.lab_words.specs.QuestionAsked.{Asked, why, why_starts, why_audit, seen, timeline, bound, steady, leak, tune, check, help, version}
 use Rattle.lab_tool.specs.Answers.{IsAnswerIn}
 
 program_rise : (R R' : Type 0) (c : Option (Option (List ℕ))) (s : Status) (t : List ℕ) → (R → R') → ProgramStops R c s t → ProgramStops R' c s t
@@ -57,8 +58,8 @@ why_rise R R' c status.Rejected t f h = h
 
 module _ (Rises Rises' : List ℕ → Type 0) (content : Content) (rise : (name : List ℕ) → Rises name → Rises' name) where
   prepares_rise : (file starts observer : List ℕ) (Next : Syntax → LabelledProgram → Option Label → Code → List StartValue → Status → List ℕ → Type 0)
-      (s : Status) (t : List ℕ) → Prepares Rises content file observer (Rises starts) (content starts) Next s t
-      → Prepares Rises' content file observer (Rises' starts) (content starts) Next s t
+      (s : Status) (t : List ℕ) → NamesAndPrepares Rises content file observer (Rises starts) (content starts) Next s t
+      → NamesAndPrepares Rises' content file observer (Rises' starts) (content starts) Next s t
   prepares_rise file starts observer Next s t (inl h) = inl (program_rise (Rises file) (Rises' file) (content file) s t (rise file) h)
   prepares_rise file starts observer Next s t (inr (p, reads, inl h)) = inr (p, reads, inl h)
   prepares_rise file starts observer Next s t (inr (p, reads, inr (o, sees, inl h))) = inr (p, reads, inr (o, sees, inl h))
@@ -82,42 +83,53 @@ module _ (Rises Rises' : List ℕ → Type 0) (content : Content) (rise : (name 
   shows_rise refused file starts observer IsText s t (inr (p, reads, inr (o, sees, inr (x, shows, inr (code, image, inr h))))) =
       inr (p, reads, inr (o, sees, inr (x, shows, inr (code, image, inr h))))
 
-  leaks_rise : (e : Environment) (t : ℕ) (file starts observer : List ℕ) (s : Status) (x : List ℕ) → Leaks Rises content file starts observer e t s x
-      → Leaks Rises' content file starts observer e t s x
-  leaks_rise e t file starts observer s x (inl h) = inl (program_rise (Rises file) (Rises' file) (content file) s x (rise file) h)
-  leaks_rise e t file starts observer s x (inr (p, reads, inl h)) = inr (p, reads, inl h)
-  leaks_rise e t file starts observer s x (inr (p, reads, inr (o, sees, inl h))) = inr (p, reads, inr (o, sees, inl h))
-  leaks_rise e t file starts observer s x (inr (p, reads, inr (o, sees, inr (q, types, inl h)))) = inr (p, reads, inr (o, sees, inr (q, types, inl h)))
-  leaks_rise e t file starts observer s x (inr (p, reads, inr (o, sees, inr (q, types, inr (code, image, inl h))))) =
-      let stop = given_rise (Rises starts) (Rises' starts) (content starts) p s x (rise starts) h in
-      inr (p, reads, inr (o, sees, inr (q, types, inr (code, image, inl stop))))
-  leaks_rise e t file starts observer s x (inr (p, reads, inr (o, sees, inr (q, types, inr (code, image, inr h))))) =
-      inr (p, reads, inr (o, sees, inr (q, types, inr (code, image, inr h))))
+  leaks_rise : (e : Environment) (t : ℕ) (refused : Bool) (file starts observer : List ℕ) (s : Status) (y : List ℕ)
+      → IsLeakAnswer Rises content file starts observer e t refused s y → IsLeakAnswer Rises' content file starts observer e t refused s y
+  leaks_rise e t refused file starts observer s y (inl h) = inl (program_rise (Rises file) (Rises' file) (content file) s y (rise file) h)
+  leaks_rise e t refused file starts observer s y (inr (p, reads, inl h)) = inr (p, reads, inl h)
+  leaks_rise e t refused file starts observer s y (inr (p, reads, inr (o, sees, inl h))) = inr (p, reads, inr (o, sees, inl h))
+  leaks_rise e t refused file starts observer s y (inr (p, reads, inr (o, sees, inr (x, shows, inl h)))) =
+      inr (p, reads, inr (o, sees, inr (x, shows, inl h)))
+  leaks_rise e t refused file starts observer s y (inr (p, reads, inr (o, sees, inr (x, shows, inr (code, image, inl h))))) =
+      let stop = given_rise (Rises starts) (Rises' starts) (content starts) p s y (rise starts) h in
+      inr (p, reads, inr (o, sees, inr (x, shows, inr (code, image, inl stop))))
+  leaks_rise e t refused file starts observer s y (inr (p, reads, inr (o, sees, inr (x, shows, inr (code, image, inr h))))) =
+      inr (p, reads, inr (o, sees, inr (x, shows, inr (code, image, inr h))))
 
   -- what answers it answers it
   pub answer_rises : (e : Environment) (a : Asked) (s : Status) (t : List ℕ) → IsAnswerIn e Rises content a s t → IsAnswerIn e Rises' content a s t
   answer_rises e (why file None) s t (inl h) = inl (why_rise (Rises file) (Rises' file) (content file) s t (rise file) h)
   answer_rises e (why file None) s t (inr h) = inr h
-  answer_rises e (why file (Some name)) s t (m, inl h, is) = (m, inl (program_rise (Rises file) (Rises' file) (content file) s m (rise file) h), is)
-  answer_rises e (why file (Some name)) s t (m, inr h, is) = (m, inr h, is)
+  answer_rises e (why file (Some name)) s t (inl h) = inl (program_rise (Rises file) (Rises' file) (content file) s t (rise file) h)
+  answer_rises e (why file (Some name)) s t (inr h) = inr h
   answer_rises e (why_starts file starts) s t (inl h) = inl (why_rise (Rises file) (Rises' file) (content file) s t (rise file) h)
   answer_rises e (why_starts file starts) s t (inr (p, reads, inl h)) = inr (p, reads, inl h)
   answer_rises e (why_starts file starts) s t (inr (p, reads, inr (q, types, h))) =
       inr (p, reads, inr (q, types, taken_since (Rises starts) (Rises' starts) (content starts) (content starts) p s t refl (rise starts) h))
+  answer_rises e (why_audit file starts observer machine budget) s t (inl h) = inl (why_rise (Rises file) (Rises' file) (content file) s t (rise file) h)
+  answer_rises e (why_audit file starts observer machine budget) s t (inr (p, reads, inl h)) = inr (p, reads, inl h)
+  answer_rises e (why_audit file starts observer machine budget) s t (inr (p, reads, inr (o, sees, inl h))) = inr (p, reads, inr (o, sees, inl h))
+  answer_rises e (why_audit file starts observer machine budget) s t (inr (p, reads, inr (o, sees, inr (q, types, inl h)))) =
+      inr (p, reads, inr (o, sees, inr (q, types, inl h)))
+  answer_rises e (why_audit file starts observer machine budget) s t (inr (p, reads, inr (o, sees, inr (q, types, inr (code, image, inl h))))) =
+      let stop : StartsStop (Rises' starts) (content starts) p s t = stop_since (Rises starts) (Rises' starts) (content starts) p s t (rise starts) h in
+      inr (p, reads, inr (o, sees, inr (q, types, inr (code, image, inl stop))))
+  answer_rises e (why_audit file starts observer machine budget) s t (inr (p, reads, inr (o, sees, inr (q, types, inr (code, image, inr h))))) =
+      inr (p, reads, inr (o, sees, inr (q, types, inr (code, image, inr h))))
   answer_rises e (seen file starts observer machine budget refused) s t h =
-      (h.0, shows_rise refused file starts (Some observer) (AreLines e budget) s h.0 h.1, h.2)
+      shows_rise refused file starts (Some observer) (AreLines e budget) s t h
   answer_rises e (timeline file starts observer machine budget refused) s t h =
-      (h.0, shows_rise refused file starts observer (AreTimelines e budget) s h.0 h.1, h.2)
+      shows_rise refused file starts observer (AreTimelines e budget) s t h
   answer_rises e (bound file starts observer machine budget) s t h =
-      (h.0, prepares_rise file starts observer (λ p q o code ss. HasBound e budget q o ss) s h.0 h.1, h.2)
-  answer_rises e (steady file observer parts constant whole) s t (m, inl h, is) = (m, inl h, is)
-  answer_rises e (steady file observer parts constant whole) s t (m, inr (costing, of, inl h), is) =
-      (m, inr (costing, of, inl (program_rise (Rises file) (Rises' file) (content file) s m (rise file) h)), is)
-  answer_rises e (steady file observer parts constant whole) s t (m, inr (costing, of, inr h), is) = (m, inr (costing, of, inr h), is)
-  answer_rises e (leak file starts observer machine budget) s t h =
-      (h.0, leaks_rise e budget file starts observer s h.0 h.1, h.2)
-  answer_rises e (tune file starts observer machine budget mark) s t h =
-      (h.0, prepares_rise file starts observer (λ p q o code ss. HasTune e budget mark q o ss) s h.0 h.1, h.2)
+      prepares_rise file starts observer (λ p q o code ss. HasBound e budget q o ss) s t h
+  answer_rises e (steady file observer parts constant whole) s t (inl h) = inl h
+  answer_rises e (steady file observer parts constant whole) s t (inr (costing, of, inl h)) =
+      inr (costing, of, inl (program_rise (Rises file) (Rises' file) (content file) s t (rise file) h))
+  answer_rises e (steady file observer parts constant whole) s t (inr (costing, of, inr h)) = inr (costing, of, inr h)
+  answer_rises e (leak file starts observer machine budget refused) s t h =
+      leaks_rise e budget refused file starts observer s t h
+  answer_rises e (tune file starts observer machine budget mark bits) s t h =
+      prepares_rise file starts observer (λ p q o code ss. HasTune e budget mark bits q o ss) s t h
   answer_rises e (check file) s t (inl h) = inl (check_rise (Rises file) (Rises' file) (content file) s t (rise file) h)
   answer_rises e (check file) s t (inr h) = inr h
   answer_rises e (help command) s t h = h

@@ -24,10 +24,10 @@ use Rattle.lab_tool.specs.Complete.{WhyStartsGoes}
 use Rattle.lab_tool.proofs.WhyLemmas.{is_typable, reason_stops, then_ends}
 
 -- a stop is a fault of the starts, or one that the tool tells too
-abbrev Either : Type 0 → Option (Option (List ℕ)) → Syntax → Status → List ℕ → Type 0
+abbrev pub Either : Type 0 → Option (Option (List ℕ)) → Syntax → Status → List ℕ → Type 0
 Either R c p s t = ((s ≡ status.Starts) × HasStartsTold c p t) ⊎ ((s ≡ status.Starts → ⊥) × StartStops R c p s t)
 
-either : (R : Type 0) (c : Option (Option (List ℕ))) (p : Syntax) (s : Status) (t : List ℕ) → StartsStop R c p s t → Either R c p s t
+pub either : (R : Type 0) (c : Option (Option (List ℕ))) (p : Syntax) (s : Status) (t : List ℕ) → StartsStop R c p s t → Either R c p s t
 either R c p status.Done t h = absurd h
 either R c p status.Refused t h = absurd h
 either R c p status.Syntax t h = absurd h
@@ -57,7 +57,7 @@ module _ (c : Option (Option (List ℕ))) (p : Syntax) (known : IsKnown c) where
       let more : h.more ≡ k.more = one_text p g.bytes g.fault h.more k.more tells k.tells in
       h.text ∙ ap (λ (z : List ℕ). z ++ h.more) line ∙ ap (λ (z : List ℕ). k.line ++ z) more ∙ sym k.text
 
-  either_one : (R : Type 0) (s u : Status) (t x : List ℕ) → (R → ⊥) → Either R c p s t → Either R c p u x → Same s u t x
+  pub either_one : (R : Type 0) (s u : Status) (t x : List ℕ) → (R → ⊥) → Either R c p s t → Either R c p u x → Same s u t x
   either_one R s u t x n (inl h) (inl k) = (h.0 ∙ sym k.0, told_one t x h.1 k.1)
   either_one R s u t x n (inl h) (inr k) =
       absurd (k.0 (sym (one_start_stop c known p R status.Starts u h.1.line x n h.1.stops k.1).0))
@@ -66,7 +66,7 @@ module _ (c : Option (Option (List ℕ))) (p : Syntax) (known : IsKnown c) where
   either_one R s u t x n (inr h) (inr k) = one_start_stop c known p R s u t x n h.1 k.1
 
   -- starts that are taken do not stop
-  either_goes : (R : Type 0) (ss : List StartValue) (s : Status) (t : List ℕ) → (R → ⊥) → StartsAre c p ss → Either R c p s t → ⊥
+  pub either_goes : (R : Type 0) (ss : List StartValue) (s : Status) (t : List ℕ) → (R → ⊥) → StartsAre c p ss → Either R c p s t → ⊥
   either_goes R ss s t n are (inl h) = starts_go R c p ss status.Starts h.1.line n known are h.1.stops
   either_goes R ss s t n are (inr h) = starts_go R c p ss s t n known are h.1
 

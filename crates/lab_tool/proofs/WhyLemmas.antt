@@ -6,7 +6,6 @@ use Rattle.mit_syntax.specs.Program.{Syntax}
 use Rattle.timing_types.specs.Labelled.{LabelledProgram, HasType}
 use Rattle.tool_texts.specs.declared.status.Status.{Status}
 use Rattle.tool_texts.specs.declared.status.Status.TheVariants as status
-use Rattle.tool_texts.specs.Texts.{usage_text}
 use Rattle.tool_stages.specs.Accepted.{HasChecked}
 use Rattle.tool_stages.specs.Stages.{Then, Reads, ProgramStops, Types}
 use Rattle.tool_stages.specs.Content.{Content, IsKnown}
@@ -20,7 +19,7 @@ use Rattle.lab_why.specs.Faulty.{WhyStops}
 use Rattle.lab_why.proofs.FaultLemmas.{why_goes}
 use Rattle.lab_why.specs.Reasons.{HasReason}
 use Rattle.lab_why.specs.Names.{named}
-use Rattle.lab_why.specs.Origins.{HasOrigins, IsOriginAnswer, NameStops}
+use Rattle.lab_why.specs.Origins.{HasOrigins, IsOriginAnswer, NameStops, no_name_text}
 use Rattle.lab_tool.specs.Complete.{Names, WhyGoes}
 
 -- a stage that does not stop and gives one value at most, and then ends
@@ -97,7 +96,7 @@ check_ends Rises content file s e t n known goes h =
     let told = answer_told Rises content file s t h in why_ends Rises content file s e told.0 n known goes told.1
 
 pub name_stops : (p : Syntax) (w : List ℕ) (s : Status) (t : List ℕ) → NameStops p w s t → (s ≡ status.Usage) × (named p w ≡ None)
-    × (t ≡ usage_text)
+    × (t ≡ no_name_text p)
 name_stops p w status.Done t h = absurd h
 name_stops p w status.Refused t h = absurd h
 name_stops p w status.Syntax t h = absurd h
@@ -123,6 +122,6 @@ pub origin_ends : (Rises : List ℕ → Type 0) (content : Content) (file w : Li
     → IsOriginAnswer Rises content file w s t → s ≡ status.Done
 origin_ends Rises content file w s t n known goes h =
     then_ends (ProgramStops (Rises file) (content file)) (Reads (content file))
-    (λ p. Then (NameStops p w) (λ spot. named p w ≡ Some spot) (λ spot s t. (s ≡ status.Done) × HasOrigins (content file) p w spot t)) s status.Done h.0
-    goes.0 goes.1 (one_program (content file) known) (program_goes (Rises file) (content file) goes.0 s h.0 n known goes.1)
-    (told_ends (content file) goes.0 w goes.2 s h.0 goes.3) h.1
+    (λ p. Then (NameStops p w) (λ spot. named p w ≡ Some spot) (λ spot s t. (s ≡ status.Done) × HasOrigins (content file) p w spot t)) s status.Done t
+    goes.0 goes.1 (one_program (content file) known) (program_goes (Rises file) (content file) goes.0 s t n known goes.1)
+    (told_ends (content file) goes.0 w goes.2 s t goes.3) h

@@ -4,13 +4,14 @@ use Rattle.tool_texts.specs.declared.status.Status.{Status}
 use Rattle.tool_texts.specs.declared.status.Status.TheVariants as status
 use Rattle.tool_stages.specs.Content.{Content}
 use Rattle.tool_stages.specs.declared.envs.Environment.{Environment}
-use Rattle.lab_texts.specs.InLab.{lab_usage_text}
+use Rattle.lab_texts.specs.Usage.{lab_usage_text}
 use Rattle.lab_words.specs.Help.{help_text, version_text}
 use Rattle.lab_words.specs.Refusal.{IsLine}
-use Rattle.lab_words.specs.QuestionAsked.{Asked, why, why_starts, seen, timeline, bound, steady, leak, tune, check, help, version}
+use Rattle.lab_words.specs.QuestionAsked.{Asked, why, why_starts, why_audit, seen, timeline, bound, steady, leak, tune, check, help, version}
 use Rattle.lab_bound.specs.Answer.{IsBoundAnswer}
 use Rattle.lab_check.specs.Answers.{IsCheckAnswer}
 use Rattle.lab_leak.specs.Answer.{IsLeakAnswer}
+use Rattle.lab_ready.specs.Answer.{IsReadyAnswer}
 use Rattle.lab_seen.specs.Seen.{IsSeen, SeenBefore}
 use Rattle.lab_steady.specs.Answer.{IsSteadyAnswer}
 use Rattle.lab_timeline.specs.Timed.{TellsTimelines, TimelinesBefore}
@@ -34,12 +35,13 @@ abbrev pub IsAnswerIn : Environment → (List ℕ → Type 0) → Content → As
 IsAnswerIn e Rises content (why file None) = IsWhyAnswer Rises content file
 IsAnswerIn e Rises content (why file (Some name)) = IsOriginAnswer Rises content file name
 IsAnswerIn e Rises content (why_starts file starts) = IsStartsAnswer Rises content file starts
+IsAnswerIn e Rises content (why_audit file starts observer machine budget) = IsReadyAnswer Rises content file starts observer e budget
 IsAnswerIn e Rises content (seen file starts observer machine budget refused) = IsSeen Rises content file starts observer e budget refused
 IsAnswerIn e Rises content (timeline file starts observer machine budget refused) = TellsTimelines Rises content file starts observer e budget refused
 IsAnswerIn e Rises content (bound file starts observer machine budget) = IsBoundAnswer Rises content file starts observer e budget
 IsAnswerIn e Rises content (steady file observer parts constant whole) = IsSteadyAnswer constant Rises content file observer parts whole
-IsAnswerIn e Rises content (leak file starts observer machine budget) = IsLeakAnswer Rises content file starts observer e budget
-IsAnswerIn e Rises content (tune file starts observer machine budget mark) = IsTuneAnswer Rises content file starts observer e budget mark
+IsAnswerIn e Rises content (leak file starts observer machine budget refused) = IsLeakAnswer Rises content file starts observer e budget refused
+IsAnswerIn e Rises content (tune file starts observer machine budget mark bits) = IsTuneAnswer Rises content file starts observer e budget mark bits
 IsAnswerIn e Rises content (check file) = IsCheckAnswer Rises content file
 IsAnswerIn e Rises content (help command) = IsDoneWith (help_text command)
 IsAnswerIn e Rises content version = IsDoneWith version_text

@@ -17,19 +17,20 @@ use Rattle.lab_steady.specs.Answer.{parts_or}
 use Rattle.lab_steady.specs.Complete.{SteadyGoes}
 use Rattle.lab_tune.specs.Complete.{CanTune}
 use Rattle.lab_why.specs.Names.{named}
-use Rattle.lab_words.specs.QuestionAsked.{Asked, why, why_starts, seen, timeline, bound, steady, leak, tune, check, help, version}
+use Rattle.lab_words.specs.QuestionAsked.{Asked, why, why_starts, why_audit, seen, timeline, bound, steady, leak, tune, check, help, version}
 use Rattle.lab_tool.specs.Machines.{machine_in, machine_files, GoesOn}
 
 -- the files that a question names beside that of a machine
 abbrev pub own_files : Asked → List (List ℕ)
 own_files (why file of) = file ∷ []
 own_files (why_starts file starts) = file ∷ starts ∷ []
+own_files (why_audit file starts observer machine budget) = file ∷ starts ∷ []
 own_files (seen file starts observer machine budget refused) = file ∷ starts ∷ []
 own_files (timeline file starts observer machine budget refused) = file ∷ starts ∷ []
 own_files (bound file starts observer machine budget) = file ∷ starts ∷ []
 own_files (steady file observer parts constant whole) = file ∷ []
-own_files (leak file starts observer machine budget) = file ∷ starts ∷ []
-own_files (tune file starts observer machine budget mark) = file ∷ starts ∷ []
+own_files (leak file starts observer machine budget refused) = file ∷ starts ∷ []
+own_files (tune file starts observer machine budget mark bits) = file ∷ starts ∷ []
 own_files (check file) = file ∷ []
 own_files (help command) = []
 own_files version = []
@@ -66,10 +67,11 @@ abbrev pub GoesIn : Environment → Content → Asked → Status → Type 0
 GoesIn e content (why file None) s = WhyGoes (content file) s
 GoesIn e content (why file (Some name)) s = IsDoneIf (Names (content file) name) s
 GoesIn e content (why_starts file starts) s = WhyStartsGoes (content file) (content starts) s
+GoesIn e content (why_audit file starts observer machine budget) s = IsDoneIf (CanBound content file starts observer e budget) s
 GoesIn e content (seen file starts observer machine budget refused) s = IsDoneIf (CanShow refused content file starts (Some observer)) s
 GoesIn e content (bound file starts observer machine budget) s = IsDoneIf (CanBound content file starts observer e budget) s
-GoesIn e content (leak file starts observer machine budget) s = IsDoneIf (CanLeak content file starts observer e budget) s
-GoesIn e content (tune file starts observer machine budget mark) s = IsDoneIf (CanTune content file starts observer e budget mark) s
+GoesIn e content (leak file starts observer machine budget refused) s = IsDoneIf (CanLeak refused content file starts observer e budget) s
+GoesIn e content (tune file starts observer machine budget mark bits) s = IsDoneIf (CanTune content file starts observer e budget mark bits) s
 GoesIn e content (timeline file starts observer machine budget refused) s = IsDoneIf (CanShow refused content file starts observer) s
 GoesIn e content (check file) s = WhyGoes (content file) s
 GoesIn e content (help command) s = IsDoneIf ⊤ s

@@ -9,18 +9,19 @@ use Rattle.tool_stages.specs.declared.envs.Environment.{Environment}
 use Rattle.tool_stages.specs.declared.envs.Environment.TheVariants.{Named, Described}
 use Rattle.machine_stage.specs.Stage.{MachineIs, MachineStops}
 use Rattle.lab_words.specs.QuestionAsked.{MachineAsked, named, described}
-use Rattle.lab_words.specs.QuestionAsked.{Asked, why, why_starts, seen, timeline, bound, steady, leak, tune, check, help, version}
+use Rattle.lab_words.specs.QuestionAsked.{Asked, why, why_starts, why_audit, seen, timeline, bound, steady, leak, tune, check, help, version}
 
 -- the machine that a question asks about; the usual one where it asks about no runs
 abbrev pub machine_in : Asked → MachineAsked
 machine_in (why file of) = named Part
 machine_in (why_starts file starts) = named Part
+machine_in (why_audit file starts observer machine budget) = machine
 machine_in (seen file starts observer machine budget refused) = machine
 machine_in (timeline file starts observer machine budget refused) = machine
 machine_in (bound file starts observer machine budget) = machine
 machine_in (steady file observer parts constant whole) = named Part
-machine_in (leak file starts observer machine budget) = machine
-machine_in (tune file starts observer machine budget mark) = machine
+machine_in (leak file starts observer machine budget refused) = machine
+machine_in (tune file starts observer machine budget mark bits) = machine
 machine_in (check file) = named Part
 machine_in (help command) = named Part
 machine_in version = named Part

@@ -17,9 +17,10 @@ use crate::laws::answers_are_worth;
 use lab_bound::bound::bound;
 use lab_check::check::check;
 use lab_leak::leak::leak;
+use lab_ready::why_audit::why_audit;
 use lab_seen::seen::seen;
 use lab_steady::steady::steady;
-use lab_texts::finish::{stop, usage};
+use lab_texts::usage::usage;
 use lab_timeline::timeline::timeline;
 use lab_tune::tune::tune;
 use lab_why::of::why_of;
@@ -36,7 +37,7 @@ use tim_base::shelf::Shelf;
 use tim_base::sink::Sink;
 use tool_stages::envs::Environment;
 use tool_stages::setting::Setting;
-use tool_texts::finish::{finish, stop_for_memory};
+use tool_texts::finish::{finish, stop, stop_for_memory};
 use tool_texts::status::Status;
 use tool_words::words::{EnvName, WordsFault};
 
@@ -63,6 +64,16 @@ fn obey_in<S: Shelf, W: Sink>(
             Some(name) => why_of(alloc, shelf, out, file, name),
         },
         Question::WhyStarts { file, starts } => why_starts(alloc, shelf, out, file, starts),
+        Question::WhyAudit {
+            file,
+            starts,
+            observer,
+            machine: _,
+            budget,
+        } => {
+            let setting = Setting { env, budget };
+            why_audit(alloc, shelf, out, file, starts, observer, setting)
+        }
         Question::Seen {
             file,
             starts,
@@ -108,9 +119,10 @@ fn obey_in<S: Shelf, W: Sink>(
             observer,
             machine: _,
             budget,
+            refused,
         } => {
             let setting = Setting { env, budget };
-            leak(alloc, shelf, out, file, starts, observer, setting)
+            leak(alloc, shelf, out, file, starts, observer, setting, refused)
         }
         Question::Tune {
             file,
@@ -119,9 +131,12 @@ fn obey_in<S: Shelf, W: Sink>(
             machine: _,
             budget,
             mark,
+            bits,
         } => {
             let setting = Setting { env, budget };
-            tune(alloc, shelf, out, file, starts, observer, setting, mark)
+            tune(
+                alloc, shelf, out, file, starts, observer, setting, mark, bits,
+            )
         }
         Question::Check { file } => check(alloc, shelf, out, file),
         Question::Help { command } => finish(out, help_text(command), Status::Done),
@@ -159,7 +174,8 @@ fn machine_in<'a>(question: Question<'a>) -> Machine<'a>
     ensures { machine_of result ≡ machine_in (asked_of question.entry) }
 {
     match question {
-        Question::Seen { machine, .. }
+        Question::WhyAudit { machine, .. }
+        | Question::Seen { machine, .. }
         | Question::Timeline { machine, .. }
         | Question::Bound { machine, .. }
         | Question::Leak { machine, .. }

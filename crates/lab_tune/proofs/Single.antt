@@ -1,5 +1,5 @@
 -- There is one answer.
-use Rattle.std.proofs.Common.{◌≡◌, ℕ, List, ◌++◌, length, Option, Some, None, inl, inr, refl, sym, ◌∙◌}
+use Rattle.std.proofs.Common.{◌≡◌, ◌^◌, ℕ, List, [], ◌∷◌, ◌++◌, length, Option, Some, None, inl, inr, refl, sym, ap, ◌∙◌}
 use Rattle.tim_base.specs.Faults.{Rose}
 use Rattle.label_lattice.specs.declared.label.Label.{Label}
 use Rattle.timing_types.specs.Labelled.{LabelledProgram}
@@ -7,17 +7,18 @@ use Rattle.code_lower.specs.Lowered.{lowered}
 use Rattle.history_bound.specs.Over.{history_made}
 use Rattle.start_file.specs.Starts.{StartValue}
 use Rattle.first_front.specs.declared.interval.Interval.{Interval}
+use Rattle.start_tune.proofs.Enough.{one_enough, none_else}
 use Rattle.start_tune.proofs.Single.{one_best}
 use Rattle.tool_texts.specs.declared.status.Status.{Status}
 use Rattle.tool_texts.specs.declared.status.Status.TheVariants as status
 use Rattle.tool_stages.specs.declared.envs.Environment.{Environment}
 use Rattle.tool_stages.specs.Envs.{environment}
+use Rattle.tool_stages.specs.Stages.{Then}
 use Rattle.tool_stages.proofs.OneLemmas.{Same, then_one}
-use Rattle.tool_stages.proofs.ChainLemmas.{prepares_one}
 use Rattle.machine_stage.specs.Lines.{machine_head}
-use Rattle.lab_texts.proofs.LabLemmas.{one_in_lab}
 use Rattle.audit_stage.proofs.Once.{audit_stops, one_audit_stop, not_fault}
-use Rattle.lab_tune.specs.Answer.{relevant_in, BestIn, TuneStops, HasTune, Tunes}
+use Rattle.lab_runs.proofs.NamedChains.{prepares_one}
+use Rattle.lab_tune.specs.Answer.{relevant_in, BestIn, AreTold, FewStops, TuneStops, HasTune}
 use Rattle.lab_tune.specs.Text.{choice_lines, head_lines, tune_line}
 use Rattle.lab_tune.specs.Complete.{HasOneTune}
 use Rattle.lab_tune.proofs.Answering.{tune_next}
@@ -44,25 +45,61 @@ none_stops e t q o mark ss is status.TooLong x h k =
     ]
 none_stops e t q o mark ss is _ x h k = k
 
-one_tune : (e : Environment) (t mark : ℕ) (q : LabelledProgram) (o : Option Label) (ss : List StartValue) (s u : Status) (x y : List ℕ)
-    → HasTune e t mark q o ss s x → HasTune e t mark q o ss u y → Same s u x y
-one_tune e t mark q None ss s u x y h k = absurd h
-one_tune e t mark q (Some l) ss s u x y (inl h) (inl k) = one_audit_stop e t q l ss s u x y h k
-one_tune e t mark q (Some l) ss s u x y (inl h) (inr k) =
+one_few_stop : (e : Environment) (t : ℕ) (q : LabelledProgram) (o mark : ℕ) (bits : Option ℕ) (ss : List StartValue) (s u : Status) (x y : List ℕ)
+    → FewStops e t q o mark bits ss s x → FewStops e t q o mark bits ss u y → Same s u x y
+one_few_stop e t q o mark None ss s u x y h k = absurd h
+one_few_stop e t q o mark (Some n) ss status.Refused status.Refused x y h k = (refl, h.1 ∙ sym k.1)
+one_few_stop e t q o mark (Some n) ss status.Refused _ x y h k = absurd k
+one_few_stop e t q o mark (Some n) ss _ u x y h k = absurd h
+
+-- where a choice tells so little, not all tell more
+few_or_none : (e : Environment) (t : ℕ) (q : LabelledProgram) (o mark : ℕ) (bits : Option ℕ) (ss : List StartValue) (best is : List Interval) (s : Status)
+    (x : List ℕ) → AreTold e t q o mark bits ss best is → FewStops e t q o mark bits ss s x → ⊥
+few_or_none e t q o mark None ss best is s x h k = k
+few_or_none e t q o mark (Some n) ss best is status.Refused x h k =
+    none_else (environment e q.program.order) history_made t (lowered q) mark (relevant_in q o) ss (2 ^ n) h.0 h.1 k.0
+few_or_none e t q o mark (Some n) ss best is _ x h k = k
+
+one_told : (e : Environment) (t : ℕ) (q : LabelledProgram) (o mark : ℕ) (bits : Option ℕ) (ss : List StartValue) (best is js : List Interval)
+    → AreTold e t q o mark bits ss best is → AreTold e t q o mark bits ss best js → is ≡ js
+one_told e t q o mark None ss best is js h k = h ∙ sym k
+one_told e t q o mark (Some n) ss best is js h k =
+    let none : List Interval = [] in
+    h.2
+    ∙ (ap (λ z. z ∷ none) (one_enough (environment e q.program.order) history_made t (lowered q) mark (relevant_in q o) ss (2 ^ n) h.0 k.0 h.1 k.1)
+    ∙ sym k.2)
+
+-- what is told of choices
+abbrev Tells : Environment → ℕ → LabelledProgram → Label → ℕ → ℕ → List Interval → Status → List ℕ → Type 0
+Tells e t q l mark runs is s x =
+    (s ≡ status.Done) × (x ≡ machine_head e ++ (tune_line mark ++ (head_lines q.program.order l t runs ++ choice_lines runs is)))
+
+abbrev Chosen : Environment → ℕ → LabelledProgram → Label → ℕ → Option ℕ → List StartValue → List Interval → Status → List ℕ → Type 0
+Chosen e t q l mark bits ss best = Then (FewStops e t q l.number mark bits ss) (AreTold e t q l.number mark bits ss best) (Tells e t q l mark (length ss))
+
+one_chosen : (e : Environment) (t : ℕ) (q : LabelledProgram) (l : Label) (mark : ℕ) (bits : Option ℕ) (ss : List StartValue) (best : List Interval)
+    (s u : Status) (x y : List ℕ) → Chosen e t q l mark bits ss best s x → Chosen e t q l mark bits ss best u y → Same s u x y
+one_chosen e t q l mark bits ss best s u x y h k =
+    then_one (FewStops e t q l.number mark bits ss) (AreTold e t q l.number mark bits ss best) (Tells e t q l mark (length ss)) s u x y
+    (one_few_stop e t q l.number mark bits ss s u x y) (few_or_none e t q l.number mark bits ss best)
+    (λ is js a b. one_told e t q l.number mark bits ss best is js a b) (λ is a b c. (b.0 ∙ sym c.0, b.1 ∙ sym c.1)) h k
+
+one_of : (e : Environment) (t mark : ℕ) (bits : Option ℕ) (q : LabelledProgram) (o : Option Label) (ss : List StartValue) (s u : Status) (x y : List ℕ)
+    → HasTune e t mark bits q o ss s x → HasTune e t mark bits q o ss u y → Same s u x y
+one_of e t mark bits q None ss s u x y h k = absurd h
+one_of e t mark bits q (Some l) ss s u x y (inl h) (inl k) = one_audit_stop e t q l ss s u x y h k
+one_of e t mark bits q (Some l) ss s u x y (inl h) (inr k) =
     let a = audit_stops e t q l ss s x h in absurd (a.none (not_fault e q l.number t ss k.0 a.fault k.1 a.is))
-one_tune e t mark q (Some l) ss s u x y (inr h) (inl k) =
+one_of e t mark bits q (Some l) ss s u x y (inr h) (inl k) =
     let a = audit_stops e t q l ss u y k in absurd (a.none (not_fault e q l.number t ss h.0 a.fault h.1 a.is))
-one_tune e t mark q (Some l) ss s u x y (inr h) (inr k) =
-    then_one (TuneStops e t q l.number mark ss) (BestIn e t q l.number mark ss)
-    (λ (is : List Interval) (z : Status) (w : List ℕ). (z ≡ status.Done) × (w ≡ machine_head e ++ (tune_line mark
-    ++ (head_lines q.program.order l t (length ss) ++ choice_lines (length ss) is)))) s u x y
+one_of e t mark bits q (Some l) ss s u x y (inr h) (inr k) =
+    then_one (TuneStops e t q l.number mark ss) (BestIn e t q l.number mark ss) (Chosen e t q l mark bits ss) s u x y
     (one_stop e t q l.number mark ss s u x y) (none_stops e t q l.number mark ss)
     (λ is js a b. (one_best (environment e q.program.order) history_made t (lowered q) mark (relevant_in q l.number) ss is a).0 js b)
-    (λ is a b c. (b.0 ∙ sym c.0, b.1 ∙ sym c.1)) h.2 k.2
+    (λ best a b c. one_chosen e t q l mark bits ss best s u x y b c) h.2 k.2
 
-pub one_tune_in_lab : HasOneTune
-one_tune_in_lab content before now file starts observer e t mark s u x y known known_starts one other h k =
+pub one_tune : HasOneTune
+one_tune content before now file starts observer e t mark bits s u x y known known_starts one other =
     let rises = λ (name : List ℕ). Rose (before name) (now name) in
-    one_in_lab (Tunes rises content file starts observer e t mark) s u x y
-    (λ m n a b. prepares_one s u m n rises content file observer (rises starts) (content starts) (tune_next e t mark) one known other known_starts
-    (λ p q o code ss. one_tune e t mark q o ss s u m n) a b) h k
+    prepares_one s u x y rises content file observer (rises starts) (content starts) (tune_next e t mark bits) one known other known_starts
+    (λ p q o code ss. one_of e t mark bits q o ss s u x y)

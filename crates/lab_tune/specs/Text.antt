@@ -25,6 +25,10 @@ tune_line mark = codes "tune #" ++ (decimal mark ++ codes " alone, the others as
 abbrev pub no_number_line : ℕ → List ℕ
 no_number_line mark = codes "tune #" ++ (decimal mark ++ codes ": its estimate is no number\n")
 
+-- no first prediction with which every run ends within the budget tells so little
+abbrev pub none_line : ℕ → ℕ → List ℕ
+none_line mark bits = codes "tune #" ++ (decimal mark ++ (codes ": none tells at most 2^" ++ (decimal bits ++ codes "\n")))
+
 abbrev pub too_late_line : ℕ → List ℕ
 too_late_line mark = codes "tune #" ++ (decimal mark ++ codes ": too long\n")
 

@@ -5,4 +5,5 @@ mod best;
 pub mod laws;
 mod lines;
 mod text;
+mod told;
 pub mod tune;

@@ -1,7 +1,7 @@
 //! The lines of `tune`.
 
 ghost use Rattle.std.specs.Prelude.{◌≡◌, ◌<◌, ◌++◌, OnOk};
-ghost use Rattle.lab_tune.specs.Text.{choice_line, choice_lines, head_lines, tune_line, no_number_line, too_late_line};
+ghost use Rattle.lab_tune.specs.Text.{choice_line, choice_lines, head_lines, tune_line, no_number_line, none_line, too_late_line};
 
 use event_print::cells::{put_number, put_wide};
 use first_front::interval::Interval;
@@ -29,6 +29,17 @@ pub(crate) fn no_number(mark: u32) -> Line
     let mut line = Line::new();
     put_number(&mut line, b"tune #", u64::from(mark));
     line.put_text(b": its estimate is no number\n");
+    line
+}
+
+/// The line where no first prediction tells so little.
+pub(crate) fn none_enough(mark: u32, bits: u32) -> Line
+    ensures { result ≡ none_line mark bits }
+{
+    let mut line = Line::new();
+    put_number(&mut line, b"tune #", u64::from(mark));
+    put_number(&mut line, b": none tells at most 2^", u64::from(bits));
+    line.put_text(b"\n");
     line
 }
 

@@ -11,34 +11,36 @@ ghost use Rattle.tool_stages.specs.Begins.{CanAudit};
 ghost use Rattle.tool_stages.specs.Accepted.{is_past_typing, IsAccepted};
 ghost use Rattle.tool_stages.specs.Fetches.{Fetches};
 ghost use Rattle.machine_stage.specs.Lines.{machine_head};
-ghost use Rattle.lab_tune.specs.Answer.{HasTune, Tunes};
+ghost use Rattle.lab_tune.specs.Answer.{HasTune, IsTuneAnswer};
 ghost use Rattle.lab_tune.specs.Text.{choice_lines, head_lines, tune_line};
 
 use crate::best::best;
 use crate::lines::{put, put_choices, put_runs, tune};
+use crate::told::told;
 use audit_stage::audited::audited;
 use first_front::interval::Interval;
+use lab_runs::prepared::prepare;
 use machine_stage::lines::put_head;
 use run_watch::Watch;
 use std::alloc::Global;
 use text_base::pos::Memory;
 use tim_base::shelf::Shelf;
-use tool_stages::prepared::{Prepared, prepare};
+use tool_stages::prepared::Prepared;
 use tool_stages::setting::Setting;
 use tool_texts::stop::{Stop, no_memory};
 
-// The text of a prepared program, and of the best choices for a mitigate.
+// The text of a prepared program, and of choices for a mitigate.
 fn told_text(
     alloc: Global,
     p: &Prepared,
     setting: Setting,
     mark: u32,
-    best: &[Interval],
+    choices: &[Interval],
 ) -> Result<Vec<u8>, Memory>
     requires fit { CanAudit p.now.compiled.typed.labelled p.now.observer p.now.compiled.image (map seen p.now.starts.items) }
     ensures { IfOk result (λ v. v.items ≡ machine_head setting.env ++ (tune_line mark
         ++ (head_lines p.now.compiled.typed.labelled.program.order p.now.observer setting.budget (length (map seen p.now.starts.items))
-        ++ choice_lines (length (map seen p.now.starts.items)) best.now))) }
+        ++ choice_lines (length (map seen p.now.starts.items)) choices.now))) }
 {
     let order = p.compiled.typed.labelled().program().lattice();
     let runs = p.starts.len() as u64;
@@ -46,7 +48,7 @@ fn told_text(
     put_head(&mut text, setting.env)?;
     put(&mut text, &tune(mark))?;
     put_runs(&mut text, order, p.observer, setting.budget, runs)?;
-    put_choices(&mut text, best, runs)?;
+    put_choices(&mut text, choices, runs)?;
     Ok(text)
 }
 
@@ -56,13 +58,14 @@ fn prepared_text<W: Watch>(
     p: &Prepared,
     setting: Setting,
     mark: u32,
+    bits: Option<u32>,
     watch: &W,
 ) -> Result<Vec<u8>, Stop>
     requires fit { CanAudit p.now.compiled.typed.labelled p.now.observer p.now.compiled.image (map seen p.now.starts.items) }
     requires cycles { IsCycles setting.budget }
-    ensures text { IfOk result (λ v. HasTune setting.env setting.budget mark p.now.compiled.typed.labelled (Some p.now.observer) (map seen p.now.starts.items)
-        status.Done v.items) }
-    ensures stop { IfErr result (IsStop (HasTune setting.env setting.budget mark p.now.compiled.typed.labelled (Some p.now.observer)
+    ensures text { IfOk result (λ v. HasTune setting.env setting.budget mark bits p.now.compiled.typed.labelled (Some p.now.observer)
+        (map seen p.now.starts.items) status.Done v.items) }
+    ensures stop { IfErr result (IsStop (HasTune setting.env setting.budget mark bits p.now.compiled.typed.labelled (Some p.now.observer)
         (map seen p.now.starts.items))) }
 {
     match audited(alloc, p, setting, watch) {
@@ -73,7 +76,11 @@ fn prepared_text<W: Watch>(
         Ok(best) => best,
         Err(stop) => return Err(stop),
     };
-    match told_text(alloc, p, setting, mark, best.as_slice()) {
+    let told = match told(alloc, best, mark, bits) {
+        Ok(told) => told,
+        Err(stop) => return Err(stop),
+    };
+    match told_text(alloc, p, setting, mark, told.as_slice()) {
         Ok(text) => Ok(text),
         Err(_) => Err(no_memory()),
     }
@@ -91,16 +98,17 @@ pub(crate) fn tune_text<S: Shelf, W: Watch>(
     name: &str,
     setting: Setting,
     mark: u32,
+    bits: Option<u32>,
     watch: &W,
 ) -> Result<Vec<u8>, Stop>
     requires { IsCycles setting.budget }
     ensures same { KeepsFiles (S.content shelf.old) (S.content shelf.new) }
     ensures later { NoCountFalls (S.faults shelf.old) (S.faults shelf.new) }
     ensures log { Fetches (file.now ∷ starts.now ∷ []) (S.log shelf.old) (S.log shelf.new) result }
-    ensures text { IfOk result (λ v. Tunes (λ name. Rose (S.faults shelf.old name) (S.faults shelf.new name)) (S.content shelf.old) file.now starts.now
-        name.now setting.env setting.budget mark status.Done v.items) }
-    ensures stop { IfErr result (IsStop (Tunes (λ name. Rose (S.faults shelf.old name) (S.faults shelf.new name)) (S.content shelf.old) file.now starts.now
-        name.now setting.env setting.budget mark)) }
+    ensures text { IfOk result (λ v. IsTuneAnswer (λ name. Rose (S.faults shelf.old name) (S.faults shelf.new name)) (S.content shelf.old) file.now
+        starts.now name.now setting.env setting.budget mark bits status.Done v.items) }
+    ensures stop { IfErr result (IsStop (IsTuneAnswer (λ name. Rose (S.faults shelf.old name) (S.faults shelf.new name)) (S.content shelf.old) file.now
+        starts.now name.now setting.env setting.budget mark bits)) }
     ensures accepted { OnOk result (IsAccepted (S.content shelf.old file.now)) }
     ensures accepted_stop { IfErr result (λ e. IsTrue (is_past_typing (status_of e)) → IsAccepted (S.content shelf.old file.now)) }
 {
@@ -108,7 +116,7 @@ pub(crate) fn tune_text<S: Shelf, W: Watch>(
         Ok(prepared) => prepared,
         Err(stop) => return Err(stop),
     };
-    match prepared_text(alloc, &prepared, setting, mark, watch) {
+    match prepared_text(alloc, &prepared, setting, mark, bits, watch) {
         Ok(text) => Ok(text),
         Err(stop) => Err(stop),
     }

@@ -5,3 +5,4 @@ pub mod OriginLemmas
 pub mod OneReason
 pub mod OneOrigins
 pub mod StartsLemmas
+pub mod NameLemmas

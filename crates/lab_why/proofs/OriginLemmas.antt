@@ -17,7 +17,7 @@ use Rattle.tool_texts.proofs.EndLemmas.{broke_map}
 use Rattle.tool_stages.specs.Stages.{ProgramStops, Reads}
 use Rattle.tool_stages.specs.Content.{Content}
 use Rattle.lab_why.specs.Names.{IsThere}
-use Rattle.lab_why.specs.Origins.{ComesFrom, HasOrigins, TellsOrigins}
+use Rattle.lab_why.specs.Origins.{IsOriginAnswer, HasOrigins, NameStops, TellsOrigins}
 
 pub has_origins : (c : Option (Option (List ℕ))) (p : Syntax) (q : LabelledProgram) (x : Reads c p) (w : List ℕ) (spot : Spot) (text : List ℕ)
     (tokens : List Token) (t v : List ℕ)
@@ -41,14 +41,21 @@ still_there p q spot e h = subst (λ (z : Syntax). IsThere z spot) (sym e) h
 
 -- what stops the reading stops the command
 pub program_stop : (Rises : List ℕ → Type 0) (content : Content) (file w : List ℕ) (e : Stop) → IsStop (ProgramStops (Rises file) (content file)) e
-    → IsStop (ComesFrom Rises content file w) e
-program_stop Rises content file w e h = broke_map (ProgramStops (Rises file) (content file)) (ComesFrom Rises content file w) (status_of e) (stop_text e) inl h
+    → IsStop (IsOriginAnswer Rises content file w) e
+program_stop Rises content file w e h =
+    broke_map (ProgramStops (Rises file) (content file)) (IsOriginAnswer Rises content file w) (status_of e) (stop_text e) inl h
+
+-- a word that names nothing stops the command
+pub word_stop : (Rises : List ℕ → Type 0) (content : Content) (file w : List ℕ) (p : Syntax) (e : Stop) → Reads (content file) p → IsStop (NameStops p w) e
+    → IsStop (IsOriginAnswer Rises content file w) e
+word_stop Rises content file w p e reads h =
+    broke_map (NameStops p w) (IsOriginAnswer Rises content file w) (status_of e) (stop_text e) (λ k. inr (p, reads, inl k)) h
 
 -- no answer is a write fault
-pub comes_no_fault : (Rises : List ℕ → Type 0) (content : Content) (file w : List ℕ) (t : List ℕ) → ComesFrom Rises content file w WriteFault t → ⊥
-comes_no_fault Rises content file w t (inl h) = h
-comes_no_fault Rises content file w t (inr (p, reads, inl h)) = h
-comes_no_fault Rises content file w t (inr (p, reads, inr (spot, is, h))) = let e : WriteFault ≡ Done = h.0 in cc
+pub origin_no_fault : (Rises : List ℕ → Type 0) (content : Content) (file w : List ℕ) (t : List ℕ) → IsOriginAnswer Rises content file w WriteFault t → ⊥
+origin_no_fault Rises content file w t (inl h) = h
+origin_no_fault Rises content file w t (inr (p, reads, inl h)) = h
+origin_no_fault Rises content file w t (inr (p, reads, inr (spot, is, h))) = let e : WriteFault ≡ Done = h.0 in cc
 
 -- the pieces that are written are those of the text
 pub tells_lines : (T : List ℕ) (ts : List Token) (q : LabelledProgram) (w : List ℕ) (spot : Spot) (ws shown : List Origin) (p : Syntax) (o : Order)

@@ -79,7 +79,7 @@ file_starts R c p status.Memory t h = absurd h
 file_starts R c p status.Rejected t h = absurd h
 
 -- a count that rose lately has risen
-stop_since : (R R' : Type 0) (c : Option (Option (List ℕ))) (p : Syntax) (s : Status) (t : List ℕ) → (R → R') → StartsStop R c p s t → StartsStop R' c p s t
+pub stop_since : (R R' : Type 0) (c : Option (Option (List ℕ))) (p : Syntax) (s : Status) (t : List ℕ) → (R → R') → StartsStop R c p s t → StartsStop R' c p s t
 stop_since R R' c p status.Done t f h = absurd h
 stop_since R R' c p status.Refused t f h = absurd h
 stop_since R R' c p status.Syntax t f h = absurd h

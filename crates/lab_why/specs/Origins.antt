@@ -1,8 +1,9 @@
 -- Where a label of the least labelling comes from, as it is told.
-use Rattle.std.specs.Prelude.{◌≡◌, ℕ, List, [], ◌++◌, All, Option, Some, None, codes}
+use Rattle.std.specs.Prelude.{◌≡◌, ℕ, List, [], ◌++◌, All, map, Option, Some, None, codes}
 use Rattle.label_lattice.specs.Order.{name_of}
 use Rattle.mit_syntax.specs.declared.token.Token.{Token}
-use Rattle.mit_syntax.specs.Program.{Syntax}
+use Rattle.mit_syntax.specs.Plan.{mitigates}
+use Rattle.mit_syntax.specs.Program.{Syntax, plan_of}
 use Rattle.timing_types.specs.Labelling.{Labelling}
 use Rattle.timing_types.specs.Labelled.{LabelledProgram, order_of}
 use Rattle.label_infer.specs.Least.{IsLeast}
@@ -13,10 +14,10 @@ use Rattle.flow_path.specs.Origins.{IsOmitted, label_there, IsOrigin, joined, Ar
 use Rattle.flow_print.specs.Lines.{origins_text}
 use Rattle.tool_texts.specs.declared.status.Status.{Status}
 use Rattle.tool_texts.specs.declared.status.Status.TheVariants as status
-use Rattle.tool_texts.specs.Texts.{usage_text}
+use Rattle.tool_texts.specs.Texts.{number_line}
 use Rattle.tool_stages.specs.Stages.{Then, Reads, ProgramStops}
 use Rattle.tool_stages.specs.Content.{Content}
-use Rattle.lab_texts.specs.InLab.{InLab}
+use Rattle.lab_texts.specs.Names.{after_blanks}
 use Rattle.lab_why.specs.Names.{named}
 
 -- The label, and then for each of some written labels the lines of the chain that is told from it: none is cheaper, and of those
@@ -38,17 +39,20 @@ pub record HasOrigins (content : Option (Option (List ℕ))) (p : Syntax) (w : L
   pub least : IsLeast p labels
   pub tells : TellsOrigins source.bytes source.tokens (record { program = p; labels = labels }) w spot t
 
--- a word that names nothing
+-- the lines on a word that names nothing: the variables and arrays that there are, and how many mitigates
+abbrev pub no_name_text : Syntax → List ℕ
+no_name_text p =
+    codes "of: unknown name\nnames" ++ (after_blanks (map (λ d. d.0) p.declarations) ++ (codes "\n"
+    ++ number_line (codes "mitigates ") (mitigates (plan_of p))))
+
+-- such a word is refused
 abbrev pub NameStops : Syntax → List ℕ → Status → List ℕ → Type 0
-NameStops p w status.Usage t = (named p w ≡ None) × (t ≡ usage_text)
+NameStops p w status.Usage t = (named p w ≡ None) × (t ≡ no_name_text p)
 NameStops p w _ t = ⊥
 
 -- the answer to `why --of`, in the order of its refusals
-abbrev pub ComesFrom : (List ℕ → Type 0) → Content → List ℕ → List ℕ → Status → List ℕ → Type 0
-ComesFrom Rises content file w =
+abbrev pub IsOriginAnswer : (List ℕ → Type 0) → Content → List ℕ → List ℕ → Status → List ℕ → Type 0
+IsOriginAnswer Rises content file w =
     Then (ProgramStops (Rises file) (content file)) (Reads (content file)) (λ p.
     Then (NameStops p w) (λ spot. named p w ≡ Some spot) (λ spot s t.
     (s ≡ status.Done) × HasOrigins (content file) p w spot t))
-
-abbrev pub IsOriginAnswer : (List ℕ → Type 0) → Content → List ℕ → List ℕ → Status → List ℕ → Type 0
-IsOriginAnswer Rises content file w = InLab (ComesFrom Rises content file w)

@@ -28,7 +28,10 @@ pub enum Spelled {
 }
 
 /// A line, and what stands behind it.
-pub(crate) fn joined(alloc: Global, line: &[u8], more: &[u8]) -> Result<Vec<u8>, Memory>
+///
+/// # Errors
+/// `Memory` is want of memory.
+pub fn joined(alloc: Global, line: &[u8], more: &[u8]) -> Result<Vec<u8>, Memory>
     ensures { IfOk result (λ v. v.items ≡ line.now ++ more.now) }
 {
     let mut whole = Vec::new(alloc);

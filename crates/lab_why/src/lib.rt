@@ -3,12 +3,12 @@
 #![tactic(auto)]
 
 mod explained;
-mod faulty;
+pub mod faulty;
 pub mod laws;
 mod names;
 pub mod of;
 pub mod origins;
-mod refused;
+pub mod refused;
 pub mod source;
 pub mod starts;
 pub mod why;

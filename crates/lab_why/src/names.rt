@@ -1,13 +1,17 @@
-//! What a word names in a program.
+//! What a word names in a program, and what is told where it names nothing.
 
-ghost use Rattle.std.specs.Prelude.{◌≡◌, IfSome, option_map};
+ghost use Rattle.std.specs.Prelude.{◌≡◌, ◌++◌, IfOk, IfSome, OnOk, map, option_map};
 ghost use Rattle.clap.specs.Lexer.{strip_byte};
 ghost use Rattle.tool_words.specs.WordsValues.{number_in};
+ghost use Rattle.lab_texts.specs.Names.{after_blanks};
+ghost use Rattle.lab_why.specs.Origins.{no_name_text};
 ghost use Rattle.lab_why.specs.Names.{IsThere, level_at, named, variable_at, variable_named};
 
 use flow_path::step::Spot;
 use label_lattice::name::Name;
 use mit_syntax::program::Program;
+use std::alloc::{AllocError, Global};
+use tool_texts::lines::number;
 use tool_words::values::number_of;
 
 /// The greatest number that the mark of a mitigate may have.
@@ -66,4 +70,33 @@ pub fn named(p: &Program, word: &str) -> Option<Spot>
         Some(digits) => level_at(p, number_of(digits, 0, MAX_MARK)),
         None => variable_named(p, word),
     }
+}
+
+// Appends the names of the variables and arrays.
+fn put_names(out: &mut Vec<u8>, p: &Program) -> Result<(), AllocError>
+    ensures { OnOk result (out.new.items ≡ out.old.items ++ after_blanks (map (λ d. d.0) p.now.declarations)) }
+{
+    let declarations = p.declarations();
+    for k in 0..declarations.len() {
+        let (name, _) = declarations.declaration(k);
+        out.extend_from_slice(b" ")?;
+        out.extend_from_slice(name.bytes())?;
+    }
+    Ok(())
+}
+
+/// The lines on a word that names nothing.
+///
+/// # Errors
+/// `AllocError` where memory runs out.
+pub fn no_name(alloc: Global, p: &Program) -> Result<Vec<u8>, AllocError>
+    ensures { IfOk result (λ v. v.items ≡ no_name_text p.now) }
+{
+    let mut lines = Vec::new(alloc);
+    lines.extend_from_slice(b"of: unknown name\nnames")?;
+    put_names(&mut lines, p)?;
+    lines.extend_from_slice(b"\n")?;
+    let mitigates = number(b"mitigates ", u64::from(p.mitigates()));
+    lines.extend_from_slice(mitigates.bytes())?;
+    Ok(lines)
 }

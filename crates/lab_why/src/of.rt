@@ -1,23 +1,36 @@
 //! The command `why --of`.
 
-ghost use Rattle.std.specs.Prelude.{◌≡◌, ◌≤◌, ◌∷◌, [], IfOk, IfErr};
+ghost use Rattle.std.specs.Prelude.{◌≡◌, ◌≤◌, ◌∷◌, [], ℕ, List, None, false, IfOk, IfErr};
 ghost use Rattle.tim_base.specs.Kept.{KeepsFiles, NoCountFalls};
 ghost use Rattle.tim_base.specs.Faults.{Rose};
-ghost use Rattle.tool_texts.specs.Ends.{EndsBy, IsStop, Nothing};
-ghost use Rattle.tool_stages.specs.Fetches.{Fetches, HasFetched};
-ghost use Rattle.lab_why.specs.Origins.{ComesFrom, IsOriginAnswer};
+ghost use Rattle.tool_texts.specs.Ends.{EndsBy, IsStop, Nothing, status_of};
+ghost use Rattle.tool_stages.specs.Fetches.{Fetches, HasFetched, is_read_fault};
+ghost use Rattle.lab_why.specs.Names.{named};
+ghost use Rattle.lab_why.specs.Origins.{IsOriginAnswer, NameStops};
 
-use crate::names::named;
+use crate::names::{named, no_name};
 use crate::origins::label_text;
 use crate::source::{Source, read_source};
-use lab_texts::finish::tell;
 use label_infer::infer::infer;
+use mit_syntax::program::Program;
 use mit_syntax::tokens::tokens;
 use std::alloc::Global;
 use tim_base::shelf::Shelf;
 use tim_base::sink::Sink;
+use tool_texts::finish::tell;
 use tool_texts::status::Status;
 use tool_texts::stop::{Stop, no_memory};
+
+// The stop where a word names nothing.
+fn name_stop(alloc: Global, p: &Program) -> Stop
+    ensures stop { (w : List ℕ) → named p.now w ≡ None → IsStop (NameStops p.now w) result }
+    ensures read { is_read_fault (status_of result) ≡ false }
+{
+    match no_name(alloc, p) {
+        Ok(lines) => Stop::Misnamed(lines),
+        Err(_) => no_memory(),
+    }
+}
 
 // The text on a label of the program of a file.
 fn origin_text<S: Shelf>(
@@ -29,14 +42,14 @@ fn origin_text<S: Shelf>(
     ensures same { KeepsFiles (S.content shelf.old) (S.content shelf.new) }
     ensures later { NoCountFalls (S.faults shelf.old) (S.faults shelf.new) }
     ensures log { Fetches (file.now ∷ []) (S.log shelf.old) (S.log shelf.new) result }
-    ensures text { IfOk result (λ v. ComesFrom (λ name. Rose (S.faults shelf.old name) (S.faults shelf.new name)) (S.content shelf.old) file.now word.now
+    ensures text { IfOk result (λ v. IsOriginAnswer (λ name. Rose (S.faults shelf.old name) (S.faults shelf.new name)) (S.content shelf.old) file.now word.now
         Status.Done v.items) }
-    ensures stop { IfErr result (IsStop (ComesFrom (λ name. Rose (S.faults shelf.old name) (S.faults shelf.new name)) (S.content shelf.old) file.now
+    ensures stop { IfErr result (IsStop (IsOriginAnswer (λ name. Rose (S.faults shelf.old name) (S.faults shelf.new name)) (S.content shelf.old) file.now
         word.now)) }
 {
     let Source { text, program } = read_source(alloc, shelf, file)?;
     let Some(spot) = named(&program, word) else {
-        return Err(Stop::Usage);
+        return Err(name_stop(alloc, &program));
     };
     let Ok(labelled) = infer(alloc, program) else {
         return Err(no_memory());

@@ -35,8 +35,16 @@ pub struct Told {
     pub text: Vec<u8>,
 }
 
-// What is told of bytes that are no starts of a program.
-fn faulty(alloc: Global, bytes: &[u8], program: &Program, fault: StartFault) -> Result<Told, Memory>
+/// What is told of bytes that are no starts of a program.
+///
+/// # Errors
+/// `Memory` is want of memory.
+pub fn faulty(
+    alloc: Global,
+    bytes: &[u8],
+    program: &Program,
+    fault: StartFault,
+) -> Result<Told, Memory>
     requires short { length bytes.now ≤ limit }
     requires fault { Gives program.now bytes.now (Err fault) }
     requires none { fault ≢ StartFault.Memory }

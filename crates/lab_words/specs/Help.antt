@@ -22,10 +22,15 @@ commands_text =
 unfoldable pub why_help : Text
 why_help =
     codes "usage: lab why FILE [STARTS] [--of NAME]\n"
+    ++ (codes "       lab why FILE STARTS --observer L [--env flat|part|part2] [--machine M] [--budget T]\n"
     ++ (codes "reasons for a refusal or a label\n"
     ++ (codes "  FILE        program\n"
     ++ (codes "  STARTS      starts\n"
-    ++ codes "  --of        name: of one name\n")))
+    ++ (codes "  --of        name: of one name\n"
+    ++ (codes "  --observer  label: who sees\n"
+    ++ (codes "  --env       environment: where costs come from; part where it is left out\n"
+    ++ (codes "  --machine   machine file: a machine in place of an environment\n"
+    ++ codes "  --budget    cycles: the last cycle; 1000000 where it is left out\n"))))))))
 
 unfoldable pub seen_help : Text
 seen_help =
@@ -74,18 +79,19 @@ steady_help =
 
 unfoldable pub leak_help : Text
 leak_help =
-    codes "usage: lab leak FILE STARTS --observer L [--env flat|part|part2] [--machine M] [--budget T]\n"
+    codes "usage: lab leak FILE STARTS --observer L [--env flat|part|part2] [--machine M] [--budget T] [--refused]\n"
     ++ (codes "what these runs tell, exactly\n"
     ++ (codes "  FILE        program\n"
     ++ (codes "  STARTS      starts\n"
     ++ (codes "  --observer  label: who sees\n"
     ++ (codes "  --env       environment: where costs come from; part where it is left out\n"
     ++ (codes "  --machine   machine file: a machine in place of an environment\n"
-    ++ codes "  --budget    cycles: the last cycle; 1000000 where it is left out\n"))))))
+    ++ (codes "  --budget    cycles: the last cycle; 1000000 where it is left out\n"
+    ++ codes "  --refused   runs a refused program too\n")))))))
 
 unfoldable pub tune_help : Text
 tune_help =
-    codes "usage: lab tune FILE STARTS --observer L [--env flat|part|part2] [--machine M] [--budget T] [--of #K]\n"
+    codes "usage: lab tune FILE STARTS --observer L [--env flat|part|part2] [--machine M] [--budget T] [--of #K] [--bits B]\n"
     ++ (codes "which first predictions are best\n"
     ++ (codes "  FILE        program\n"
     ++ (codes "  STARTS      starts\n"
@@ -93,7 +99,8 @@ tune_help =
     ++ (codes "  --env       environment: where costs come from; part where it is left out\n"
     ++ (codes "  --machine   machine file: a machine in place of an environment\n"
     ++ (codes "  --budget    cycles: the last cycle; 1000000 where it is left out\n"
-    ++ codes "  --of        mark: of one mitigate; #0 where it is left out\n")))))))
+    ++ (codes "  --of        mark: of one mitigate; #0 where it is left out\n"
+    ++ codes "  --bits      bits: the cheapest one that tells no more\n"))))))))
 
 unfoldable pub check_help : Text
 check_help =

@@ -1,5 +1,6 @@
 -- What the words of the lab's command line ask for.
-use Rattle.std.specs.Prelude.{ℕ, List, [], ◌∷◌, Bool, true, false, Option, Some, None, codes, bytes_eq, option_and_then, option_map, if◌then◌else◌}
+use Rattle.std.specs.Prelude.{ℕ, List, [], ◌∷◌, Bool, true, false, not, ◌&&◌, Option, Some, None, codes, bytes_eq, is_some}
+use Rattle.std.specs.Prelude.{option_and_then, option_map, if◌then◌else◌}
 use Rattle.std.specs.Bool.{⊤}
 use Rattle.clap.specs.Words.{Row, Text, fault_of, first_of, matches_of}
 use Rattle.clap.specs.Lexer.{strip_byte}
@@ -17,18 +18,20 @@ pub data MachineAsked : Type 0 where
   described : Text → MachineAsked
 
 -- A question with the bytes of its texts, in the order of `Question`: file, starts, observer, machine and budget;
--- of `seen` and `timeline` also whether refused programs run, of `tune` the mark of a mitigate;
+-- of `seen`, `timeline` and `leak` also whether refused programs run, of `tune` the mark of a mitigate and the greatest number of bits, if
+-- there is one;
 -- of `steady` file, observer, parts, names of operators, and whether the whole run is asked about;
 -- of `help` the command, if there is one.
 pub data Asked : Type 0 where
   why : Text → Option Text → Asked
   why_starts : Text → Text → Asked
+  why_audit : Text → Text → Text → MachineAsked → ℕ → Asked
   seen : Text → Text → Text → MachineAsked → ℕ → Bool → Asked
   timeline : Text → Text → Option Text → MachineAsked → ℕ → Bool → Asked
   bound : Text → Text → Text → MachineAsked → ℕ → Asked
   steady : Text → Text → Option Text → Option Text → Bool → Asked
-  leak : Text → Text → Text → MachineAsked → ℕ → Asked
-  tune : Text → Text → Text → MachineAsked → ℕ → ℕ → Asked
+  leak : Text → Text → Text → MachineAsked → ℕ → Bool → Asked
+  tune : Text → Text → Text → MachineAsked → ℕ → ℕ → Option ℕ → Asked
   check : Text → Asked
   help : Option Verb → Asked
   version : Asked
@@ -48,11 +51,9 @@ verb_named word =
 
 -- ---- the values that `clap` gives to the names of a form
 
--- `--of` stands in place of STARTS
-abbrev pub why_asked : Option Text → Option Text → Option Text → Option Asked
-why_asked (Some file) None of = Some (why file of)
-why_asked (Some file) (Some starts) None = Some (why_starts file starts)
-why_asked _ _ _ = None
+-- no value has this name
+abbrev pub lacks : Text → List Row → Bool
+lacks name rows = not (is_some (first_of name rows))
 
 -- `--machine` stands in place of `--env`: both name no machine, and none of both names that of an environment
 abbrev pub machine_named : Option Text → Option Text → Option MachineAsked
@@ -72,6 +73,27 @@ runs_asked _ _ _ _ _ _ = None
 abbrev pub runs_given : (Text → Text → Text → MachineAsked → ℕ → Asked) → List Row → Option Asked
 runs_given ask rows = runs_asked ask (first_of (codes "FILE") rows) (first_of (codes "STARTS") rows)
     (first_of (codes "observer") rows) (machine_given rows) (budget_given rows)
+
+-- no value tells of a machine, nor of a budget
+abbrev pub lacks_setting : List Row → Bool
+lacks_setting rows = lacks (codes "env") rows && (lacks (codes "machine") rows && lacks (codes "budget") rows)
+
+-- of a program alone: `--of` may stand there, and nothing of an audit
+abbrev pub why_asked : Option Text → Option Text → Bool → Option Asked
+why_asked (Some file) of true = Some (why file of)
+why_asked _ _ _ = None
+
+-- of starts alone
+abbrev pub why_starts_asked : Option Text → Text → Bool → Option Asked
+why_starts_asked (Some file) starts true = Some (why_starts file starts)
+why_starts_asked _ _ _ = None
+
+-- by STARTS, `--of` and `--observer`: a machine and a budget are told where there is an observer
+abbrev pub why_given : List Row → Option Text → Option Text → Option Text → Option Asked
+why_given rows None of None = why_asked (first_of (codes "FILE") rows) of (lacks_setting rows)
+why_given rows (Some starts) None None = why_starts_asked (first_of (codes "FILE") rows) starts (lacks_setting rows)
+why_given rows (Some starts) None (Some observer) = runs_given why_audit rows
+why_given rows _ _ _ = None
 
 abbrev pub timeline_asked : Option Text → Option Text → Option MachineAsked → Option ℕ → Option Text → Bool → Option Asked
 timeline_asked (Some file) (Some starts) (Some machine) (Some budget) observer refused =
@@ -98,10 +120,19 @@ mark_named (Some word) = option_and_then (number_in 0 4294967295) (strip_byte 35
 abbrev pub mark_given : List Row → Option ℕ
 mark_given rows = mark_named (first_of (codes "mark") rows)
 
--- of the best first predictions: file, starts, observer, machine, budget and mark
-abbrev pub tune_asked : Option Text → Option Text → Option Text → Option MachineAsked → Option ℕ → Option ℕ → Option Asked
-tune_asked (Some file) (Some starts) (Some observer) (Some machine) (Some budget) (Some mark) = Some (tune file starts observer machine budget mark)
-tune_asked _ _ _ _ _ _ = None
+-- how many bits first predictions may tell, from 0 to 64; where none is written any number
+abbrev pub bits_named : Option Text → Option (Option ℕ)
+bits_named None = Some None
+bits_named (Some word) = option_map (λ n. Some n) (number_in 0 64 word)
+
+abbrev pub bits_given : List Row → Option (Option ℕ)
+bits_given rows = bits_named (first_of (codes "bits") rows)
+
+-- of the best first predictions: file, starts, observer, machine, budget, mark and bits
+abbrev pub tune_asked : Option Text → Option Text → Option Text → Option MachineAsked → Option ℕ → Option ℕ → Option (Option ℕ) → Option Asked
+tune_asked (Some file) (Some starts) (Some observer) (Some machine) (Some budget) (Some mark) (Some bits) =
+    Some (tune file starts observer machine budget mark bits)
+tune_asked _ _ _ _ _ _ _ = None
 
 -- `--json` must be there
 abbrev pub check_asked : Option Text → Bool → Option Asked
@@ -115,7 +146,7 @@ help_asked None = Some (help None)
 help_asked (Some word) = option_map (λ verb. help (Some verb)) (verb_named word)
 
 abbrev pub given : Verb → List Row → Option Asked
-given Why rows = why_asked (first_of (codes "FILE") rows) (first_of (codes "STARTS") rows) (first_of (codes "of") rows)
+given Why rows = why_given rows (first_of (codes "STARTS") rows) (first_of (codes "of") rows) (first_of (codes "observer") rows)
 given Seen rows = runs_given (λ file starts observer machine budget.
     seen file starts observer machine budget (flag_given (codes "refused") rows)) rows
 given Timeline rows = timeline_asked (first_of (codes "FILE") rows) (first_of (codes "STARTS") rows) (machine_given rows)
@@ -123,9 +154,10 @@ given Timeline rows = timeline_asked (first_of (codes "FILE") rows) (first_of (c
 given Bound rows = runs_given bound rows
 given Steady rows = steady_asked (first_of (codes "FILE") rows) (first_of (codes "observer") rows) (first_of (codes "parts") rows)
     (first_of (codes "constant") rows) (flag_given (codes "whole") rows)
-given Leak rows = runs_given leak rows
+given Leak rows = runs_given (λ file starts observer machine budget.
+    leak file starts observer machine budget (flag_given (codes "refused") rows)) rows
 given Tune rows = tune_asked (first_of (codes "FILE") rows) (first_of (codes "STARTS") rows) (first_of (codes "observer") rows) (machine_given rows)
-    (budget_given rows) (mark_given rows)
+    (budget_given rows) (mark_given rows) (bits_given rows)
 given Check rows = check_asked (first_of (codes "FILE") rows) (flag_given (codes "json") rows)
 given Help rows = help_asked (first_of (codes "COMMAND") rows)
 given Version rows = Some version
@@ -148,12 +180,13 @@ question_of (word ∷ words) = option_and_then (λ verb. asked_after verb words)
 abbrev pub IsInRange : Asked → Type 0
 IsInRange (why file of) = ⊤
 IsInRange (why_starts file starts) = ⊤
+IsInRange (why_audit file starts observer machine budget) = IsCycles budget
 IsInRange (seen file starts observer machine budget refused) = IsCycles budget
 IsInRange (timeline file starts observer machine budget refused) = IsCycles budget
 IsInRange (bound file starts observer machine budget) = IsCycles budget
 IsInRange (steady file observer parts constant whole) = ⊤
-IsInRange (leak file starts observer machine budget) = IsCycles budget
-IsInRange (tune file starts observer machine budget mark) = IsCycles budget
+IsInRange (leak file starts observer machine budget refused) = IsCycles budget
+IsInRange (tune file starts observer machine budget mark bits) = IsCycles budget
 IsInRange (check file) = ⊤
 IsInRange (help command) = ⊤
 IsInRange version = ⊤

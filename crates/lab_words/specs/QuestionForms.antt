@@ -6,10 +6,11 @@ use Rattle.tool_words.specs.WordsForms.{bare, observed_app, option_rule, require
 use Rattle.lab_words.specs.declared.verbs.Verb.{Verb}
 use Rattle.lab_words.specs.declared.verbs.Verb.TheVariants.{Why, Seen, Timeline, Bound, Steady, Leak, Tune, Check, Help, Version}
 
--- FILE [STARTS] [--of NAME]
+-- FILE [STARTS] [--of NAME] [--observer L] [--env E] [--machine M] [--budget T]
 abbrev pub why_app : App
-why_app = with_rule (with_rule (with_rule (bare (new_app (codes "why"))) (required_word_rule (codes "FILE"))) (new_rule (codes "STARTS")))
-    (option_rule (codes "of"))
+why_app = with_rule (with_rule (with_rule (with_rule (with_rule (with_rule (with_rule (bare (new_app (codes "why")))
+    (required_word_rule (codes "FILE"))) (new_rule (codes "STARTS"))) (option_rule (codes "of"))) (option_rule (codes "observer")))
+    (option_rule (codes "env"))) (option_rule (codes "machine"))) (option_rule (codes "budget"))
 
 -- `--name`
 abbrev pub flag_rule : Text → Rule
@@ -27,8 +28,8 @@ abbrev pub runs_app : Text → App
 runs_app name = with_rule (observed_app name) (option_rule (codes "machine"))
 
 -- the same and [--refused]
-abbrev pub seen_app : App
-seen_app = with_rule (runs_app (codes "seen")) (flag_rule (codes "refused"))
+abbrev pub shown_app : Text → App
+shown_app name = with_rule (runs_app name) (flag_rule (codes "refused"))
 
 -- FILE --observer L [--parts P] [--constant NAMES] [--whole]
 abbrev pub steady_app : App
@@ -39,9 +40,9 @@ steady_app = with_rule (with_rule (with_rule (with_rule (with_rule (bare (new_ap
 abbrev pub mark_rule : Rule
 mark_rule = record (new_rule (codes "mark")) { long = Some (codes "of") }
 
--- what is observed of runs and [--of #K]
+-- what is observed of runs, [--of #K] and [--bits B]
 abbrev pub tune_app : App
-tune_app = with_rule (runs_app (codes "tune")) mark_rule
+tune_app = with_rule (with_rule (runs_app (codes "tune")) mark_rule) (option_rule (codes "bits"))
 
 -- FILE --json
 abbrev pub check_app : App
@@ -54,11 +55,11 @@ help_app = with_rule (bare (new_app (codes "help"))) (new_rule (codes "COMMAND")
 -- the words that follow each command word
 abbrev pub form_app : Verb → App
 form_app Why = why_app
-form_app Seen = seen_app
+form_app Seen = shown_app (codes "seen")
 form_app Timeline = timeline_app
 form_app Bound = runs_app (codes "bound")
 form_app Steady = steady_app
-form_app Leak = runs_app (codes "leak")
+form_app Leak = shown_app (codes "leak")
 form_app Tune = tune_app
 form_app Check = check_app
 form_app Help = help_app

@@ -10,14 +10,10 @@ use Rattle.clap.specs.Words.{App, Row, Rule, Text, fault_of, first_of, matches_o
 use Rattle.tool_words.specs.WordsValues.{budget_given}
 use Rattle.lab_words.specs.declared.verbs.Verb.{Verb}
 use Rattle.lab_words.specs.declared.verbs.Verb.TheVariants.{Why, Seen, Timeline, Bound, Steady, Leak, Tune, Check, Help, Version}
-use Rattle.lab_words.specs.QuestionAsked.{help_asked, machine_given, mark_given, verb_named}
+use Rattle.lab_words.specs.QuestionAsked.{bits_given, help_asked, lacks, lacks_setting, machine_given, mark_given, verb_named}
 use Rattle.lab_words.specs.QuestionForms.{form_app}
 
 -- ---- the first word that can't be taken
-
--- no value has this name
-abbrev pub lacks : Text → List Row → Bool
-lacks name rows = not (is_some (first_of name rows))
 
 -- a form of which no word must be there
 abbrev pub optional : Rule → Rule
@@ -26,15 +22,15 @@ optional r = record r { required = false }
 abbrev pub loosened : App → App
 loosened = on_top (λ s. record s { rules = map optional s.rules })
 
--- no name stands beside starts
+-- no name stands beside starts, or beside what tells of an audit
 abbrev pub is_of_alone : List Row → Bool
-is_of_alone rows = lacks (codes "of") rows || lacks (codes "STARTS") rows
+is_of_alone rows = lacks (codes "of") rows || (lacks (codes "STARTS") rows && (lacks (codes "observer") rows && lacks_setting rows))
 
 -- the values that words give are of their form
 abbrev pub has_values : List Row → Bool
 has_values rows =
-    is_some (machine_given rows) && (is_some (budget_given rows) && (is_some (mark_given rows)
-    && (is_some (help_asked (first_of (codes "COMMAND") rows)) && is_of_alone rows)))
+    is_some (machine_given rows) && (is_some (budget_given rows) && (is_some (mark_given rows) && (is_some (bits_given rows)
+    && (is_some (help_asked (first_of (codes "COMMAND") rows)) && is_of_alone rows))))
 
 -- the words after a command word can be taken, if some more follow
 abbrev pub is_taken : Verb → List Text → Bool
@@ -89,13 +85,13 @@ unknown_line command = codes "lab: " ++ (shown command ++ commands_there)
 
 -- the form of each command, with what its values may be
 abbrev pub form_told : Verb → Text
-form_told Why = codes "why FILE [STARTS] [--of NAME]\n"
+form_told Why = codes "why FILE [STARTS] [--of NAME], or why FILE STARTS --observer LABEL [--env flat|part|part2] [--machine M] [--budget 1..1099511627776]\n"
 form_told Seen = codes "seen FILE STARTS --observer LABEL [--env flat|part|part2] [--machine M] [--budget 1..1099511627776] [--refused]\n"
 form_told Timeline = codes "timeline FILE STARTS [--env flat|part|part2] [--machine M] [--budget 1..1099511627776] [--observer LABEL] [--refused]\n"
 form_told Bound = codes "bound FILE STARTS --observer LABEL [--env flat|part|part2] [--machine M] [--budget 1..1099511627776]\n"
 form_told Steady = codes "steady FILE --observer LABEL [--parts LABEL] [--constant NAMES] [--whole]\n"
-form_told Leak = codes "leak FILE STARTS --observer LABEL [--env flat|part|part2] [--machine M] [--budget 1..1099511627776]\n"
-form_told Tune = codes "tune FILE STARTS --observer LABEL [--env flat|part|part2] [--machine M] [--budget 1..1099511627776] [--of #K]\n"
+form_told Leak = codes "leak FILE STARTS --observer LABEL [--env flat|part|part2] [--machine M] [--budget 1..1099511627776] [--refused]\n"
+form_told Tune = codes "tune FILE STARTS --observer LABEL [--env flat|part|part2] [--machine M] [--budget 1..1099511627776] [--of #K] [--bits 0..64]\n"
 form_told Check = codes "check FILE --json\n"
 form_told Help = codes "help [why|seen|timeline|bound|steady|leak|tune|check|help|version]\n"
 form_told Version = codes "version\n"
@@ -119,7 +115,6 @@ wrong_line verb command word rest =
 
 -- the word that must be there and is not, where one is not
 abbrev pub missing : Verb → List Row → Text
-missing Why rows = codes "FILE"
 missing Steady rows = if lacks (codes "FILE") rows then codes "FILE" else codes "--observer"
 missing Check rows = if lacks (codes "FILE") rows then codes "FILE" else codes "--json"
 missing Timeline rows = if lacks (codes "FILE") rows then codes "FILE" else codes "STARTS"

@@ -2,7 +2,7 @@
 
 ghost use Rattle.std.specs.Prelude.{◌≡◌, false, IfOk};
 ghost use Rattle.clap.specs.Words.{app_of, rule_of};
-ghost use Rattle.lab_words.specs.QuestionForms.{check_app, flag_rule, form_app, help_app, mark_rule, runs_app, seen_app};
+ghost use Rattle.lab_words.specs.QuestionForms.{check_app, flag_rule, form_app, help_app, mark_rule, runs_app, shown_app};
 ghost use Rattle.lab_words.specs.QuestionForms.{steady_app, timeline_app, tune_app, why_app};
 
 use crate::verbs::Verb;
@@ -10,14 +10,18 @@ use clap::{Arg, ArgAction, Command as Form};
 use std::alloc::{AllocError, Global};
 use tool_words::forms::{bare_form, observed_form, option, required_option, required_word};
 
-/// `why FILE [STARTS] [--of NAME]`.
+/// `why FILE [STARTS] [--of NAME] [--observer L] [--env E] [--machine M] [--budget T]`.
 fn why_form<'a>(alloc: Global) -> Result<Form<'a>, AllocError>
     ensures { IfOk result (λ f. app_of f ≡ why_app) }
 {
     bare_form(alloc, "why")
         .arg(required_word(alloc, "FILE"))?
         .arg(Arg::new(alloc, "STARTS"))?
-        .arg(option(alloc, "of"))
+        .arg(option(alloc, "of"))?
+        .arg(option(alloc, "observer"))?
+        .arg(option(alloc, "env"))?
+        .arg(option(alloc, "machine"))?
+        .arg(option(alloc, "budget"))
 }
 
 /// `timeline FILE STARTS [--env E] [--machine M] [--budget T] [--observer L] [--refused]`.
@@ -49,11 +53,11 @@ fn runs_form<'a>(alloc: Global, name: &'a str) -> Result<Form<'a>, AllocError>
     observed_form(alloc, name)?.arg(option(alloc, "machine"))
 }
 
-/// `seen FILE STARTS --observer L [--env E] [--machine M] [--budget T] [--refused]`.
-fn seen_form<'a>(alloc: Global) -> Result<Form<'a>, AllocError>
-    ensures { IfOk result (λ f. app_of f ≡ seen_app) }
+/// `FILE STARTS --observer L [--env E] [--machine M] [--budget T] [--refused]`.
+fn shown_form<'a>(alloc: Global, name: &'a str) -> Result<Form<'a>, AllocError>
+    ensures { IfOk result (λ f. app_of f ≡ shown_app name.entry.now) }
 {
-    runs_form(alloc, "seen")?.arg(flag(alloc, "refused"))
+    runs_form(alloc, name)?.arg(flag(alloc, "refused"))
 }
 
 /// `steady FILE --observer L [--parts P] [--constant NAMES] [--whole]`.
@@ -76,11 +80,13 @@ pub(crate) fn mark<'a>(alloc: Global) -> Arg<'a>
     Arg::new(alloc, "mark").long("of")
 }
 
-/// `tune FILE STARTS --observer L [--env E] [--machine M] [--budget T] [--of #K]`.
+/// `tune FILE STARTS --observer L [--env E] [--machine M] [--budget T] [--of #K] [--bits B]`.
 fn tune_form<'a>(alloc: Global) -> Result<Form<'a>, AllocError>
     ensures { IfOk result (λ f. app_of f ≡ tune_app) }
 {
-    runs_form(alloc, "tune")?.arg(mark(alloc))
+    runs_form(alloc, "tune")?
+        .arg(mark(alloc))?
+        .arg(option(alloc, "bits"))
 }
 
 /// `check FILE --json`.
@@ -105,11 +111,11 @@ pub(crate) fn form<'a>(alloc: Global, verb: Verb) -> Result<Form<'a>, AllocError
 {
     match verb {
         Verb::Why => why_form(alloc),
-        Verb::Seen => seen_form(alloc),
+        Verb::Seen => shown_form(alloc, "seen"),
         Verb::Timeline => timeline_form(alloc),
         Verb::Bound => runs_form(alloc, "bound"),
         Verb::Steady => steady_form(alloc),
-        Verb::Leak => runs_form(alloc, "leak"),
+        Verb::Leak => shown_form(alloc, "leak"),
         Verb::Tune => tune_form(alloc),
         Verb::Check => check_form(alloc),
         Verb::Help => help_form(alloc),

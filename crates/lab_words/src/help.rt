@@ -28,10 +28,15 @@ fn why_help() -> &'static [u8]
     ensures { result.now ≡ why_help }
 {
     b"usage: lab why FILE [STARTS] [--of NAME]
+       lab why FILE STARTS --observer L [--env flat|part|part2] [--machine M] [--budget T]
 reasons for a refusal or a label
   FILE        program
   STARTS      starts
   --of        name: of one name
+  --observer  label: who sees
+  --env       environment: where costs come from; part where it is left out
+  --machine   machine file: a machine in place of an environment
+  --budget    cycles: the last cycle; 1000000 where it is left out
 "
 }
 
@@ -100,7 +105,7 @@ whether code is constant in time
 fn leak_help() -> &'static [u8]
     ensures { result.now ≡ leak_help }
 {
-    b"usage: lab leak FILE STARTS --observer L [--env flat|part|part2] [--machine M] [--budget T]
+    b"usage: lab leak FILE STARTS --observer L [--env flat|part|part2] [--machine M] [--budget T] [--refused]
 what these runs tell, exactly
   FILE        program
   STARTS      starts
@@ -108,6 +113,7 @@ what these runs tell, exactly
   --env       environment: where costs come from; part where it is left out
   --machine   machine file: a machine in place of an environment
   --budget    cycles: the last cycle; 1000000 where it is left out
+  --refused   runs a refused program too
 "
 }
 
@@ -115,7 +121,7 @@ what these runs tell, exactly
 fn tune_help() -> &'static [u8]
     ensures { result.now ≡ tune_help }
 {
-    b"usage: lab tune FILE STARTS --observer L [--env flat|part|part2] [--machine M] [--budget T] [--of #K]
+    b"usage: lab tune FILE STARTS --observer L [--env flat|part|part2] [--machine M] [--budget T] [--of #K] [--bits B]
 which first predictions are best
   FILE        program
   STARTS      starts
@@ -124,6 +130,7 @@ which first predictions are best
   --machine   machine file: a machine in place of an environment
   --budget    cycles: the last cycle; 1000000 where it is left out
   --of        mark: of one mitigate; #0 where it is left out
+  --bits      bits: the cheapest one that tells no more
 "
 }
 

@@ -4,13 +4,13 @@ ghost use Rattle.std.specs.Prelude.{◌≡◌, ◌==◌, IfOk, map, not, option_
 ghost use Rattle.std.specs.Char.{is_ascii_graphic};
 ghost use Rattle.std.specs.List.{list_all};
 ghost use Rattle.clap.specs.Words.{found_of, rows_of};
-ghost use Rattle.lab_words.specs.Refusal.{commands_there, form_told, gap, is_bare_option, is_dashed, is_plain, lacks, line_begin, missing};
+ghost use Rattle.lab_words.specs.Refusal.{commands_there, form_told, gap, is_bare_option, is_dashed, is_plain, line_begin, missing};
 ghost use Rattle.lab_words.specs.Refusal.{missing_line, next_shown, no_command_line, shown, told, unknown_line, wrong_line};
 
+use crate::readers::lacks;
 use crate::verbs::Verb;
 use clap::ArgMatches;
 use std::alloc::{AllocError, Global};
-use tool_words::readers::text;
 
 // The most bytes of a word that is told.
 const MAX_SHOWN: usize = 64;
@@ -94,7 +94,8 @@ fn form_told(verb: Verb) -> &'static [u8]
     ensures { result.now ≡ form_told verb }
 {
     match verb {
-        Verb::Why => b"why FILE [STARTS] [--of NAME]\n",
+        Verb::Why =>
+            b"why FILE [STARTS] [--of NAME], or why FILE STARTS --observer LABEL [--env flat|part|part2] [--machine M] [--budget 1..1099511627776]\n",
         Verb::Seen =>
             b"seen FILE STARTS --observer LABEL [--env flat|part|part2] [--machine M] [--budget 1..1099511627776] [--refused]\n",
         Verb::Timeline =>
@@ -104,20 +105,13 @@ fn form_told(verb: Verb) -> &'static [u8]
         Verb::Steady =>
             b"steady FILE --observer LABEL [--parts LABEL] [--constant NAMES] [--whole]\n",
         Verb::Leak =>
-            b"leak FILE STARTS --observer LABEL [--env flat|part|part2] [--machine M] [--budget 1..1099511627776]\n",
+            b"leak FILE STARTS --observer LABEL [--env flat|part|part2] [--machine M] [--budget 1..1099511627776] [--refused]\n",
         Verb::Tune =>
-            b"tune FILE STARTS --observer LABEL [--env flat|part|part2] [--machine M] [--budget 1..1099511627776] [--of #K]\n",
+            b"tune FILE STARTS --observer LABEL [--env flat|part|part2] [--machine M] [--budget 1..1099511627776] [--of #K] [--bits 0..64]\n",
         Verb::Check => b"check FILE --json\n",
         Verb::Help => b"help [why|seen|timeline|bound|steady|leak|tune|check|help|version]\n",
         Verb::Version => b"version\n",
     }
-}
-
-// Whether the words lack a word or an option.
-pub(crate) fn lacks(matches: &ArgMatches<'_>, name: &str) -> bool
-    ensures { result ≡ lacks name.now (rows_of (found_of matches.now)) }
-{
-    text(matches, name).is_none()
 }
 
 // The word that must be there and is not, where one is not.
@@ -125,7 +119,6 @@ fn missing(verb: Verb, matches: &ArgMatches<'_>) -> &'static [u8]
     ensures { result.now ≡ missing verb (rows_of (found_of matches.now)) }
 {
     match verb {
-        Verb::Why => b"FILE",
         Verb::Steady => if lacks(matches, "FILE") {
             b"FILE"
         } else {

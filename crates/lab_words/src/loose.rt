@@ -3,7 +3,7 @@
 ghost use Rattle.std.specs.Prelude.{◌≡◌, IfOk};
 ghost use Rattle.clap.specs.Words.{app_of};
 ghost use Rattle.tool_words.specs.WordsForms.{observed_app};
-ghost use Rattle.lab_words.specs.QuestionForms.{check_app, form_app, runs_app, seen_app, steady_app, timeline_app, tune_app, why_app};
+ghost use Rattle.lab_words.specs.QuestionForms.{check_app, form_app, runs_app, shown_app, steady_app, timeline_app, tune_app, why_app};
 ghost use Rattle.lab_words.specs.Refusal.{loosened};
 
 use crate::forms::{flag, help_form, mark};
@@ -12,14 +12,18 @@ use clap::{Arg, Command as Form};
 use std::alloc::{AllocError, Global};
 use tool_words::forms::{bare_form, option};
 
-/// `why [FILE] [STARTS] [--of NAME]`.
+/// `why [FILE] [STARTS] [--of NAME] [--observer L] [--env E] [--machine M] [--budget T]`.
 fn why_form<'a>(alloc: Global) -> Result<Form<'a>, AllocError>
     ensures { IfOk result (λ f. app_of f ≡ loosened why_app) }
 {
     bare_form(alloc, "why")
         .arg(Arg::new(alloc, "FILE"))?
         .arg(Arg::new(alloc, "STARTS"))?
-        .arg(option(alloc, "of"))
+        .arg(option(alloc, "of"))?
+        .arg(option(alloc, "observer"))?
+        .arg(option(alloc, "env"))?
+        .arg(option(alloc, "machine"))?
+        .arg(option(alloc, "budget"))
 }
 
 /// `[FILE] [STARTS] [--observer L] [--env E] [--budget T]`.
@@ -41,11 +45,11 @@ fn runs_form<'a>(alloc: Global, name: &'a str) -> Result<Form<'a>, AllocError>
     observed_form(alloc, name)?.arg(option(alloc, "machine"))
 }
 
-/// `seen [FILE] [STARTS] [--observer L] [--env E] [--machine M] [--budget T] [--refused]`.
-fn seen_form<'a>(alloc: Global) -> Result<Form<'a>, AllocError>
-    ensures { IfOk result (λ f. app_of f ≡ loosened seen_app) }
+/// `[FILE] [STARTS] [--observer L] [--env E] [--machine M] [--budget T] [--refused]`.
+fn shown_form<'a>(alloc: Global, name: &'a str) -> Result<Form<'a>, AllocError>
+    ensures { IfOk result (λ f. app_of f ≡ loosened (shown_app name.entry.now)) }
 {
-    runs_form(alloc, "seen")?.arg(flag(alloc, "refused"))
+    runs_form(alloc, name)?.arg(flag(alloc, "refused"))
 }
 
 /// `timeline [FILE] [STARTS] [--env E] [--machine M] [--budget T] [--observer L] [--refused]`.
@@ -74,11 +78,13 @@ fn steady_form<'a>(alloc: Global) -> Result<Form<'a>, AllocError>
         .arg(flag(alloc, "whole"))
 }
 
-/// `tune [FILE] [STARTS] [--observer L] [--env E] [--machine M] [--budget T] [--of #K]`.
+/// `tune [FILE] [STARTS] [--observer L] [--env E] [--machine M] [--budget T] [--of #K] [--bits B]`.
 fn tune_form<'a>(alloc: Global) -> Result<Form<'a>, AllocError>
     ensures { IfOk result (λ f. app_of f ≡ loosened tune_app) }
 {
-    runs_form(alloc, "tune")?.arg(mark(alloc))
+    runs_form(alloc, "tune")?
+        .arg(mark(alloc))?
+        .arg(option(alloc, "bits"))
 }
 
 /// `check [FILE] [--json]`.
@@ -96,11 +102,11 @@ pub(crate) fn loose_form<'a>(alloc: Global, verb: Verb) -> Result<Form<'a>, Allo
 {
     match verb {
         Verb::Why => why_form(alloc),
-        Verb::Seen => seen_form(alloc),
+        Verb::Seen => shown_form(alloc, "seen"),
         Verb::Timeline => timeline_form(alloc),
         Verb::Bound => runs_form(alloc, "bound"),
         Verb::Steady => steady_form(alloc),
-        Verb::Leak => runs_form(alloc, "leak"),
+        Verb::Leak => shown_form(alloc, "leak"),
         Verb::Tune => tune_form(alloc),
         Verb::Check => check_form(alloc),
         Verb::Help => help_form(alloc),

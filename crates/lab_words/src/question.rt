@@ -26,6 +26,14 @@ pub enum Question<'a> {
         file: &'a str,
         starts: &'a str,
     },
+    /// `why FILE STARTS --observer L [--env E | --machine M] [--budget T]`, `budget` from 1 to `MAX_CYCLES`
+    WhyAudit {
+        file: &'a str,
+        starts: &'a str,
+        observer: &'a str,
+        machine: Machine<'a>,
+        budget: u64,
+    },
     /// `seen FILE STARTS --observer L [--env E | --machine M] [--budget T] [--refused]`, `budget` from 1 to `MAX_CYCLES`
     Seen {
         file: &'a str,
@@ -60,15 +68,17 @@ pub enum Question<'a> {
         constant: Option<&'a str>,
         whole: bool,
     },
-    /// `leak FILE STARTS --observer L [--env E | --machine M] [--budget T]`, `budget` from 1 to `MAX_CYCLES`
+    /// `leak FILE STARTS --observer L [--env E | --machine M] [--budget T] [--refused]`, `budget` from 1 to `MAX_CYCLES`
     Leak {
         file: &'a str,
         starts: &'a str,
         observer: &'a str,
         machine: Machine<'a>,
         budget: u64,
+        refused: bool,
     },
-    /// `tune FILE STARTS --observer L [--env E | --machine M] [--budget T] [--of #K]`, `budget` from 1 to `MAX_CYCLES`
+    /// `tune FILE STARTS --observer L [--env E | --machine M] [--budget T] [--of #K] [--bits B]`, `budget` from 1 to
+    /// `MAX_CYCLES`, `bits` from 0 to 64
     Tune {
         file: &'a str,
         starts: &'a str,
@@ -76,6 +86,7 @@ pub enum Question<'a> {
         machine: Machine<'a>,
         budget: u64,
         mark: u32,
+        bits: Option<u32>,
     },
     /// `check FILE --json`
     Check {

@@ -1,9 +1,10 @@
 //! What the matches of each command ask for.
 
-ghost use Rattle.std.specs.Prelude.{◌≡◌, IfSome, option_map};
+ghost use Rattle.std.specs.Prelude.{◌≡◌, IfSome, codes, option_map};
 ghost use Rattle.clap.specs.Lexer.{strip_byte};
-ghost use Rattle.clap.specs.Words.{found_of, rows_of};
-ghost use Rattle.lab_words.specs.QuestionAsked.{IsInRange, flag_given, given, machine_given, mark_given, mark_named};
+ghost use Rattle.clap.specs.Words.{first_of, found_of, rows_of};
+ghost use Rattle.lab_words.specs.QuestionAsked.{IsInRange, bits_given, bits_named, flag_given, given, lacks, lacks_setting, machine_given, mark_given};
+ghost use Rattle.lab_words.specs.QuestionAsked.{mark_named, runs_given, why_asked, why_audit, why_starts_asked};
 ghost use Rattle.lab_words.specs.QuestionViews.{asked_of, machine_of};
 
 use crate::machine::Machine;
@@ -16,16 +17,83 @@ use tool_words::values::number_of;
 /// The greatest number that the mark of a mitigate may have.
 const MAX_MARK: u64 = u32::MAX as u64;
 
+/// The greatest number of bits.
+const MAX_BITS: u64 = 64;
+
+/// Whether the words lack a word or an option.
+pub(crate) fn lacks(matches: &ArgMatches<'_>, name: &str) -> bool
+    ensures { result ≡ lacks name.now (rows_of (found_of matches.now)) }
+{
+    text(matches, name).is_none()
+}
+
+/// Whether the words tell of no machine, and of no budget.
+pub(crate) fn lacks_setting(matches: &ArgMatches<'_>) -> bool
+    ensures { result ≡ lacks_setting (rows_of (found_of matches.now)) }
+{
+    lacks(matches, "env") && lacks(matches, "machine") && lacks(matches, "budget")
+}
+
+// `why` of a program alone.
+fn why_program<'a>(matches: &ArgMatches<'a>, of: Option<&'a str>) -> Option<Question<'a>>
+    ensures asked { option_map asked_of result ≡ why_asked (first_of (codes "FILE") (rows_of (found_of matches.now))) (option_map (λ n. n.now) of.entry)
+        (lacks_setting (rows_of (found_of matches.now))) }
+    ensures range { IfSome result (λ q. IsInRange (asked_of q)) }
+{
+    let file = file(matches)?;
+    if lacks_setting(matches) {
+        return Some(Question::Why { file, of });
+    }
+    None
+}
+
+// `why` of starts alone.
+fn why_starts<'a>(matches: &ArgMatches<'a>, starts: &'a str) -> Option<Question<'a>>
+    ensures asked { option_map asked_of result ≡ why_starts_asked (first_of (codes "FILE") (rows_of (found_of matches.now))) starts.entry.now
+        (lacks_setting (rows_of (found_of matches.now))) }
+    ensures range { IfSome result (λ q. IsInRange (asked_of q)) }
+{
+    let file = file(matches)?;
+    if lacks_setting(matches) {
+        return Some(Question::WhyStarts { file, starts });
+    }
+    None
+}
+
+// `why` of an audit.
+fn why_audit<'a>(matches: &ArgMatches<'a>) -> Option<Question<'a>>
+    ensures asked { option_map asked_of result ≡ runs_given why_audit (rows_of (found_of matches.now)) }
+    ensures range { IfSome result (λ q. IsInRange (asked_of q)) }
+{
+    let file = file(matches)?;
+    let starts = text(matches, "STARTS")?;
+    let observer = text(matches, "observer")?;
+    let machine = machine(matches)?;
+    let budget = budget(matches)?;
+    Some(Question::WhyAudit {
+        file,
+        starts,
+        observer,
+        machine,
+        budget,
+    })
+}
+
 fn why<'a>(matches: &ArgMatches<'a>) -> Option<Question<'a>>
     ensures asked { option_map asked_of result ≡ given Verb.Why (rows_of (found_of matches.now)) }
     ensures range { IfSome result (λ q. IsInRange (asked_of q)) }
 {
-    let file = file(matches)?;
     let of = text(matches, "of");
     match text(matches, "STARTS") {
-        None => Some(Question::Why { file, of }),
+        None => match text(matches, "observer") {
+            None => why_program(matches, of),
+            Some(_) => None,
+        },
         Some(starts) => match of {
-            None => Some(Question::WhyStarts { file, starts }),
+            None => match text(matches, "observer") {
+                None => why_starts(matches, starts),
+                Some(_) => why_audit(matches),
+            },
             Some(_) => None,
         },
     }
@@ -142,12 +210,14 @@ fn leak<'a>(matches: &ArgMatches<'a>) -> Option<Question<'a>>
     let observer = text(matches, "observer")?;
     let machine = machine(matches)?;
     let budget = budget(matches)?;
+    let refused = flag(matches, "refused");
     Some(Question::Leak {
         file,
         starts,
         observer,
         machine,
         budget,
+        refused,
     })
 }
 
@@ -176,6 +246,24 @@ pub(crate) fn mark(matches: &ArgMatches<'_>) -> Option<u32>
     mark_of(text(matches, "mark"))
 }
 
+// The bits that a word names, where there is one; none where the word names none.
+fn bits_of(word: Option<&str>) -> Option<Option<u32>>
+    ensures { result ≡ bits_named (option_map (λ w. w.now) word.entry) }
+{
+    let Some(word) = word else {
+        return Some(None);
+    };
+    let bits = number_of(word, 0, MAX_BITS)?;
+    Some(Some(bits as u32))
+}
+
+/// The bits that the words name, if they name any; none where what they name is none.
+pub(crate) fn bits(matches: &ArgMatches<'_>) -> Option<Option<u32>>
+    ensures { result ≡ bits_given (rows_of (found_of matches.now)) }
+{
+    bits_of(text(matches, "bits"))
+}
+
 fn tune<'a>(matches: &ArgMatches<'a>) -> Option<Question<'a>>
     ensures asked { option_map asked_of result ≡ given Verb.Tune (rows_of (found_of matches.now)) }
     ensures range { IfSome result (λ q. IsInRange (asked_of q)) }
@@ -186,6 +274,7 @@ fn tune<'a>(matches: &ArgMatches<'a>) -> Option<Question<'a>>
     let machine = machine(matches)?;
     let budget = budget(matches)?;
     let mark = mark(matches)?;
+    let bits = bits(matches)?;
     Some(Question::Tune {
         file,
         starts,
@@ -193,6 +282,7 @@ fn tune<'a>(matches: &ArgMatches<'a>) -> Option<Question<'a>>
         machine,
         budget,
         mark,
+        bits,
     })
 }
 

@@ -6,9 +6,9 @@ ghost use Rattle.lab_words.specs.QuestionAsked.{help_asked};
 ghost use Rattle.lab_words.specs.QuestionForms.{form_app};
 ghost use Rattle.lab_words.specs.Refusal.{IsFirst, IsLine, IsLineAfter, has_values, is_of_alone, is_taken, line_at, loosened, stands};
 
-use crate::lines::{lacks, missing_line, no_command, unknown_line, wrong_line};
+use crate::lines::{missing_line, no_command, unknown_line, wrong_line};
 use crate::loose::loose_form;
-use crate::readers::{machine, mark};
+use crate::readers::{bits, lacks, lacks_setting, machine, mark};
 use crate::verbs::{Verb, verb_of};
 use clap::ArgMatches;
 use std::alloc::Global;
@@ -27,11 +27,12 @@ fn has_command(matches: &ArgMatches<'_>) -> bool
     }
 }
 
-// Whether no name stands beside starts.
+// Whether no name stands beside starts, or beside what tells of an audit.
 fn is_of_alone(matches: &ArgMatches<'_>) -> bool
     ensures { result ≡ is_of_alone (rows_of (found_of matches.now)) }
 {
-    lacks(matches, "of") || lacks(matches, "STARTS")
+    lacks(matches, "of")
+        || (lacks(matches, "STARTS") && lacks(matches, "observer") && lacks_setting(matches))
 }
 
 // Whether the values of matches are of their form.
@@ -41,6 +42,7 @@ fn has_values(matches: &ArgMatches<'_>) -> bool
     machine(matches).is_some()
         && budget(matches).is_some()
         && mark(matches).is_some()
+        && bits(matches).is_some()
         && has_command(matches)
         && is_of_alone(matches)
 }

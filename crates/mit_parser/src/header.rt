@@ -211,6 +211,7 @@ impl<'a> Parser<'a> {
     }
 
     /// [ "labels" name { "," name } ";" [ "order" pair { "," pair } ";" ] ], the first part of a program
+    #[inline(never)]
     pub fn header(&mut self, alloc: Global) -> Result<Header, ParseFault>
         requires { self.old.fault ≡ None }
         ensures { MatchResult result (λ h. IsHeader h.lattice h.pairs.items self.old self.new) (Refused header self.old self.new) }

@@ -1,6 +1,7 @@
 //! The program that tokens spell.
 
-ghost use Rattle.std.specs.Prelude.{◌<◌, ◌^◌, IfOk, MatchResult, length};
+ghost use Rattle.std.specs.Prelude.{◌≡◌, ◌≢◌, ◌<◌, ◌^◌, None, Some, IfOk, MatchResult, length};
+ghost use Rattle.label_lattice.specs.Order.{IsOrder};
 ghost use Rattle.mit_syntax.specs.Cut.{AreTokens};
 ghost use Rattle.mit_parser.specs.Words.{told};
 ghost use Rattle.mit_parser.specs.Spells.{IsProgram, Refuses};
@@ -10,28 +11,40 @@ use crate::fault::ParseFault;
 use crate::names::Names;
 use crate::parser::Parser;
 use label_lattice::label::Label;
+use label_lattice::lattice::Lattice;
 use mit_syntax::ast::Command;
+use mit_syntax::declarations::Variables;
 use mit_syntax::program::Program;
 use mit_syntax::token::Token;
 use std::alloc::{AllocError, Global};
 
-// The program of these parts.
-fn assembled(
-    alloc: Global,
-    pairs: Vec<(Label, Label)>,
-    names: Names,
-    body: Vec<Command>,
-) -> Result<Program, AllocError>
-    requires { AreParts names.lattice pairs.items names.variables body.items }
-    ensures { IfOk result (IsAssembled names.lattice pairs.items names.variables body.items) }
+// The lattice of a header in a box. Its copy stands on the stack only here.
+#[inline(never)]
+fn boxed(alloc: Global, lattice: &Option<Lattice>) -> Result<Box<Lattice>, AllocError>
+    requires { lattice.now ≢ None }
+    ensures same { IfOk result (λ b. lattice.now ≡ Some b.value) }
+    ensures order { IfOk result (λ b. IsOrder b.value) }
 {
-    let Some(lattice) = names.lattice else {
+    let Some(lattice) = lattice else {
         unreachable!()
     };
     lattice.laws();
-    names.variables.laws();
-    let lattice = Box::new(alloc, lattice)?;
-    Ok(Program::of(lattice, pairs, names.variables, body))
+    Ok(Box::new(alloc, *lattice)?)
+}
+
+// The program of these parts.
+fn assembled(
+    lattice: Box<Lattice>,
+    pairs: Vec<(Label, Label)>,
+    variables: Variables,
+    body: Vec<Command>,
+) -> Program
+    requires order { IsOrder lattice.value }
+    requires parts { AreParts (Some lattice.value) pairs.items variables body.items }
+    ensures { IsAssembled (Some lattice.value) pairs.items variables body.items result }
+{
+    variables.laws();
+    Program::of(lattice, pairs, variables, body)
 }
 
 /// The program that the tokens of a text of at most 2^31 - 1 bytes spell.
@@ -65,8 +78,8 @@ pub fn parse(alloc: Global, tokens: &[Token], text: &[u8]) -> Result<Program, Pa
     }
     match parser.fault() {
         Some(fault) => Err(fault),
-        None => match assembled(alloc, header.pairs, names, body) {
-            Ok(program) => Ok(program),
+        None => match boxed(alloc, &names.lattice) {
+            Ok(lattice) => Ok(assembled(lattice, header.pairs, names.variables, body)),
             Err(_) => Err(ParseFault::Memory),
         },
     }

@@ -90,6 +90,8 @@ fn walked<W: Watch>(
 /// What the runs of a program's image from all starts of a space tell an observer of the start. A watch is told how far each
 /// run has come. The classes are kept, and no run is.
 ///
+/// `why`: what stops it is one of the stops of a space.
+///
 /// # Errors
 /// Stops with `Disagree`, `Unfinished`, `TooLong` or `Memory`.
 pub fn space_leak<W: Watch>(
@@ -105,6 +107,7 @@ pub fn space_leak<W: Watch>(
     requires cycles { IsCycles setting.budget }
     ensures text { IfOk result (λ v. HasSpaceLeak setting.env setting.budget p.now (Some observer) (seen space.now) status.Done v.items) }
     ensures stop { IfErr result (IsStop (HasSpaceLeak setting.env setting.budget p.now (Some observer) (seen space.now))) }
+    ensures why { IfErr result (IsStop (SpaceStops setting.env setting.budget p.now observer (seen space.now))) }
 {
     let size = match size_in(alloc, space) {
         Ok(size) => size,

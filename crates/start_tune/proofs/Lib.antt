@@ -1,3 +1,4 @@
 pub mod Alike
 pub mod Walking
 pub mod Single
+pub mod Enough

@@ -1,5 +1,6 @@
 -- What commands begin with: the stages in their order, what stops them, and what they leave to the rest of a command.
 use Rattle.std.specs.Prelude.{◌≡◌, ◌<◌, ◌≤◌, ℕ, List, All, length, Option, Some}
+use Rattle.label_lattice.specs.Order.{Order}
 use Rattle.label_lattice.specs.declared.label.Label.{Label}
 use Rattle.mit_syntax.specs.Program.{Syntax}
 use Rattle.timing_types.specs.Labelled.{LabelledProgram}
@@ -11,23 +12,36 @@ use Rattle.tool_stages.specs.Stages.{Then, Reads, ProgramStops, Observes, Observ
 use Rattle.tool_stages.specs.Stages.{FirstStart, FirstStops}
 use Rattle.tool_stages.specs.Content.{Content}
 
--- From a file to an image, and an observer's name to a label; then the rest goes on.
-abbrev pub Compiles : (List ℕ → Type 0) → Content → List ℕ → Option (List ℕ)
+-- how a call stops where an observer's name is no label's
+abbrev pub StopsForName : Type 1
+StopsForName = Order → Option (List ℕ) → Status → List ℕ → Type 0
+
+-- From a file to an image, and an observer's name to a label, or a stop for that; then the rest goes on.
+abbrev pub CompilesBy : StopsForName → (List ℕ → Type 0) → Content → List ℕ → Option (List ℕ)
     → (Syntax → LabelledProgram → Option Label → Code → Status → List ℕ → Type 0) → Status → List ℕ → Type 0
-Compiles Rises content file observer Next =
+CompilesBy Unnamed Rises content file observer Next =
     Then (ProgramStops (Rises file) (content file)) (Reads (content file)) (λ p.
-    Then (ObserverStops p.order observer) (Observes p.order observer) (λ o.
+    Then (Unnamed p.order observer) (Observes p.order observer) (λ o.
     Then (TypeStops p) (Types p) (λ q.
     Then (ImageStops q) (HasImage q) (λ code.
     Next p q o code))))
 
+-- the same where the tool's usage text is told of such a name
+abbrev pub Compiles : (List ℕ → Type 0) → Content → List ℕ → Option (List ℕ)
+    → (Syntax → LabelledProgram → Option Label → Code → Status → List ℕ → Type 0) → Status → List ℕ → Type 0
+Compiles = CompilesBy ObserverStops
+
 -- From a file, an observer's name and what a start file is told to hold to an image and starts.
-abbrev pub Prepares : (List ℕ → Type 0) → Content → List ℕ → List ℕ → Type 0 → Option (Option (List ℕ))
+abbrev pub PreparesBy : StopsForName → (List ℕ → Type 0) → Content → List ℕ → List ℕ → Type 0 → Option (Option (List ℕ))
     → (Syntax → LabelledProgram → Option Label → Code → List StartValue → Status → List ℕ → Type 0) → Status → List ℕ → Type 0
-Prepares Rises content file observer Rose starts Next =
-    Compiles Rises content file (Some observer) (λ p q o code.
+PreparesBy Unnamed Rises content file observer Rose starts Next =
+    CompilesBy Unnamed Rises content file (Some observer) (λ p q o code.
     Then (StartStops Rose starts p) (StartsAre starts p) (λ ss.
     Next p q o code ss))
+
+abbrev pub Prepares : (List ℕ → Type 0) → Content → List ℕ → List ℕ → Type 0 → Option (Option (List ℕ))
+    → (Syntax → LabelledProgram → Option Label → Code → List StartValue → Status → List ℕ → Type 0) → Status → List ℕ → Type 0
+Prepares = PreparesBy ObserverStops
 
 -- ---- what stages leave to the rest of a command
 

@@ -12,10 +12,12 @@ use Rattle.tool_texts.specs.Texts.{usage_text, memory_line}
 -- the status of a stop, and its text
 abbrev pub status_of : Stop → Status
 status_of stop.Usage = status.Usage
+status_of (stop.Misnamed lines) = status.Usage
 status_of (stop.With s line) = s
 
 abbrev pub stop_text : Stop → List ℕ
 stop_text stop.Usage = usage_text
+stop_text (stop.Misnamed lines) = lines.items
 stop_text (stop.With s line) = line
 
 -- the status and the text of a command whose text is made before it is written

@@ -58,6 +58,7 @@ pub fn stop<W: Sink>(out: &mut W, stop: Stop) -> Status
 {
     match stop {
         Stop::Usage => finish(out, usage(), Status::Usage),
+        Stop::Misnamed(lines) => finish(out, lines.as_slice(), Status::Usage),
         Stop::With { status, line } => finish(out, line.bytes(), status),
     }
 }

@@ -14,6 +14,8 @@ use tim_base::line::Line;
 pub enum Stop {
     /// The words ask for nothing: the usage text is written.
     Usage,
+    /// A word names nothing: the lines that are written.
+    Misnamed(Vec<u8>),
     /// A status, and the one line that is written.
     With { status: Status, line: Line },
 }

@@ -28,8 +28,8 @@ const LAB_USAGE: &[u8] = b"usage: lab why FILE [STARTS] [--of NAME]
        lab timeline FILE STARTS [--env flat|part|part2] [--machine M] [--budget T] [--observer L] [--refused]
        lab bound FILE STARTS --observer L [--env flat|part|part2] [--machine M] [--budget T]
        lab steady FILE --observer L [--parts P] [--constant NAMES] [--whole]
-       lab leak FILE STARTS --observer L [--env flat|part|part2] [--machine M] [--budget T]
-       lab tune FILE STARTS --observer L [--env flat|part|part2] [--machine M] [--budget T] [--of #K]
+       lab leak FILE STARTS --observer L [--env flat|part|part2] [--machine M] [--budget T] [--refused]
+       lab tune FILE STARTS --observer L [--env flat|part|part2] [--machine M] [--budget T] [--of #K] [--bits B]
        lab check FILE --json
        lab help [COMMAND]
        lab version

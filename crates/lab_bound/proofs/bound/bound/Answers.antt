@@ -1,13 +1,11 @@
 use Rattle.std.specs.Prelude.{ℕ, List, [], ◌∷◌}
 use Rattle.tim_base.specs.Faults.{Rose}
 use Rattle.tool_texts.specs.Ends.{Nothing, told_status, told_text}
-use Rattle.tool_texts.proofs.EndLemmas.{no_fault, ends_finish}
+use Rattle.tool_texts.proofs.EndLemmas.{no_fault, result_tells, ends_finish}
 use Rattle.tool_stages.specs.Accepted.{IsAccepted}
 use Rattle.tool_stages.proofs.EarlyLemmas.{result_past}
 use Rattle.tool_stages.proofs.FetchLemmas.{told_fetched}
-use Rattle.lab_texts.specs.InLab.{lab_text}
-use Rattle.lab_texts.proofs.LabLemmas.{result_tells_in_lab}
-use Rattle.lab_bound.specs.Answer.{Bounds, IsBoundAnswer}
+use Rattle.lab_bound.specs.Answer.{IsBoundAnswer}
 use Rattle.lab_bound.proofs.Answering.{bound_no_fault, completes}
 use Rattle.lab_bound.proofs.bound.bound.Goals as goal
 
@@ -15,7 +13,8 @@ pub tell-requires : goal.tell-requires
 tell-requires g c =
     let content = g.S.Shelf.content c.args.shelf.now in
     let rises = λ (name : List ℕ). Rose (g.S.Shelf.faults c.args.shelf.now name) (g.S.Shelf.faults c.bound_text-text.new.shelf name) in
-    no_fault (Bounds rises content c.args.file.now c.args.starts.now c.args.observer.now c.args.setting.env c.args.setting.budget) c.bound_text-text.result
+    no_fault (IsBoundAnswer rises content c.args.file.now c.args.starts.now c.args.observer.now c.args.setting.env c.args.setting.budget)
+    c.bound_text-text.result
     (bound_no_fault rises content c.args.file.now c.args.starts.now c.args.observer.now c.args.setting.env c.args.setting.budget)
     c.bound_text-text.ensures.stop
 
@@ -26,8 +25,8 @@ returns-clause-answered g c =
     let r = c.bound_text-text.result in
     ends_finish (g.W.Sink.taken c.args.out.now) (g.W.Sink.taken c.tell.new.out) Nothing
     (IsBoundAnswer rises content c.args.file.now c.args.starts.now c.args.observer.now c.args.setting.env c.args.setting.budget)
-    (told_status r) (lab_text (told_status r) (told_text r)) c.tell.result
-    (result_tells_in_lab (Bounds rises content c.args.file.now c.args.starts.now c.args.observer.now c.args.setting.env c.args.setting.budget) r
+    (told_status r) (told_text r) c.tell.result
+    (result_tells (IsBoundAnswer rises content c.args.file.now c.args.starts.now c.args.observer.now c.args.setting.env c.args.setting.budget) r
     c.bound_text-text.ensures.text c.bound_text-text.ensures.stop) c.tell.ensures.told c.tell.ensures.prefix
 
 pub returns-clause-complete : goal.returns-clause-complete
@@ -39,8 +38,8 @@ returns-clause-complete g c =
     c.args.setting.env c.args.setting.budget c.tell.result (Rose (g.W.Sink.faults c.args.out.now) (g.W.Sink.faults c.tell.new.out))
     (ends_finish (g.W.Sink.taken c.args.out.now) (g.W.Sink.taken c.tell.new.out) Nothing
     (IsBoundAnswer rises content c.args.file.now c.args.starts.now c.args.observer.now c.args.setting.env c.args.setting.budget)
-    (told_status r) (lab_text (told_status r) (told_text r)) c.tell.result
-    (result_tells_in_lab (Bounds rises content c.args.file.now c.args.starts.now c.args.observer.now c.args.setting.env c.args.setting.budget) r
+    (told_status r) (told_text r) c.tell.result
+    (result_tells (IsBoundAnswer rises content c.args.file.now c.args.starts.now c.args.observer.now c.args.setting.env c.args.setting.budget) r
     c.bound_text-text.ensures.text c.bound_text-text.ensures.stop) c.tell.ensures.told c.tell.ensures.prefix)
     c.tell.ensures.fault
 

@@ -2,8 +2,8 @@ use Rattle.std.specs.Prelude.{ℕ, List, [], ◌∷◌, Some, map}
 use Rattle.tim_base.specs.Faults.{Rose}
 use Rattle.start_file.specs.Starts.{seen}
 use Rattle.tool_texts.specs.declared.status.Status.TheVariants.{Done}
-use Rattle.tool_stages.proofs.PrepareLemmas.{prepared_goes, prepare_stops, audit_stops}
 use Rattle.tool_stages.proofs.FetchLemmas.{fetch_stops, not_read}
+use Rattle.lab_runs.proofs.PreparedLemmas.{prepared_goes, prepare_stops, audit_stops}
 use Rattle.lab_bound.specs.Answer.{HasBound}
 use Rattle.lab_bound.proofs.Answering.{bound_next, no_read_in}
 use Rattle.lab_bound.proofs.text.bound_text.Goals as goal

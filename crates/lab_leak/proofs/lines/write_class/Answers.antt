@@ -1,11 +1,6 @@
 use Rattle.std.proofs.Common.{◌≡◌, ◌++◌, ℕ, List, codes, decimal, subst, ap, ◌∙◌}
 use Rattle.std.proofs.lemmas.List.{append_assoc}
-use Rattle.env_contract.specs.Env.{Env}
-use Rattle.timing_types.specs.Labelled.{LabelledProgram}
-use Rattle.label_code.specs.Run.{run_from}
-use Rattle.cycle_machine.specs.Rest.{Told, told_by}
-use Rattle.start_file.specs.Starts.{seen}
-use Rattle.leak_audit.specs.Agreement.{start_of}
+use Rattle.cycle_machine.specs.Rest.{Told}
 use Rattle.lab_seen.specs.Seen.{line_text}
 use Rattle.lab_leak.proofs.lines.write_class.Goals as goal
 
@@ -15,15 +10,8 @@ behind old mid new words line h k = k ∙ ap (λ z. z ++ line) h ∙ append_asso
 
 pub returns-in-Ok-write_line : goal.returns-in-Ok-write_line
 returns-in-Ok-write_line g c =
-    let v : Env g.row.E.Denot = g.E.MachineEnv.env in
-    let p = c.labelled-labelled.result.now in
     let words = codes "class " ++ (decimal c.args.size ++ codes " first ") in
-    let told : LabelledProgram → Told = λ q. told_by (run_from v c.args.p.now.compiled.image.instrs c.args.budget
-    (start_of (g.M.MakeEnv.made c.args.maker.now) q.program.order (seen c.args.start.now))) in
-    subst (λ (q : LabelledProgram). c.write_line.new.out.text.items
-    ≡ c.args.out.now.text.items ++ (words ++ line_text q c.args.p.now.observer c.args.first (told q)))
-    c.labelled-labelled.ensures.labelled
-    (subst (λ (z : Told). c.write_line.new.out.text.items ≡ c.args.out.now.text.items ++ (words ++ line_text p c.args.p.now.observer c.args.first z))
+    subst (λ (z : Told). c.write_line.new.out.text.items ≡ c.args.out.now.text.items ++ (words ++ line_text c.args.p.now c.args.observer c.args.first z))
     (c.in_ok-machine.ensures.runs c.args.budget)
     (behind c.args.out.now.text.items c.write_all.new.out.text.items c.write_line.new.out.text.items words _
-    (c.in-Ok.ensures.ok ∙ ap (λ z. c.args.out.now.text.items ++ z) (c.bytes.ensures ∙ c.class_words-words.ensures)) c.in-Ok-write_line.ensures.text))
+    (c.in-Ok.ensures.ok ∙ ap (λ z. c.args.out.now.text.items ++ z) (c.bytes.ensures ∙ c.class_words-words.ensures)) c.in-Ok-write_line.ensures.text)

@@ -1,4 +1,4 @@
-use Rattle.std.proofs.Common.{◌≤◌, length, ap, ◌∙◌, sym, subst}
+use Rattle.std.proofs.Common.{ap, ◌∙◌, subst}
 use Rattle.std.specs.Prelude.{option_map}
 use Rattle.timing_types.specs.Labelled.{LabelledProgram}
 use Rattle.code_lower.specs.Lowered.{lowered, IsLowerFault}

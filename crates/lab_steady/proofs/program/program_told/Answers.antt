@@ -1,6 +1,11 @@
 use Rattle.lab_steady.specs.Told.{status_told, text_told}
-use Rattle.lab_steady.proofs.Stages.{parts_stop, told_program, image_stops}
+use Rattle.lab_steady.proofs.Stages.{observer_stop, parts_stop, told_program, image_stops}
 use Rattle.lab_steady.proofs.program.program_told.Goals as goal
+
+pub returns-in_err-observer-clause-stop : goal.returns-in_err-observer-clause-stop
+returns-in_err-observer-clause-stop c =
+    observer_stop c.args.costing c.args.program c.lattice-lattice.result.now c.args.text.now c.args.observer.now c.args.parts.now c.args.whole
+    c.lattice-lattice.ensures c.from_residual.result c.in_err-observer.field-0.0 c.from_residual.ensures.1 c.in_err-observer.ensures.stop
 
 pub returns-in-Err-clause-stop : goal.returns-in-Err-clause-stop
 returns-in-Err-clause-stop c =

@@ -36,6 +36,13 @@ returns-in-WhyStarts-clause-answered g c =
     subst (λ (x : Question). EndsBy (g.W.Sink.taken c.args.out.now) (g.W.Sink.taken c.why_starts.new.out) (BeforeIn c.args.env content (asked_of x))
     (IsAnswerIn c.args.env rises content (asked_of x)) c.why_starts.result) (sym c.in-WhyStarts.is) c.why_starts.ensures.answered
 
+pub returns-in-WhyAudit-clause-answered : goal.returns-in-WhyAudit-clause-answered
+returns-in-WhyAudit-clause-answered g c =
+    let content = g.S.Shelf.content c.args.shelf.now in
+    let rises = λ (name : List ℕ). Rose (g.S.Shelf.faults c.args.shelf.now name) (g.S.Shelf.faults c.why_audit.new.shelf name) in
+    subst (λ (x : Question). EndsBy (g.W.Sink.taken c.args.out.now) (g.W.Sink.taken c.why_audit.new.out) (BeforeIn c.args.env content (asked_of x))
+    (IsAnswerIn c.args.env rises content (asked_of x)) c.why_audit.result) (sym c.in-WhyAudit.is) c.why_audit.ensures.answered
+
 pub returns-in-Seen-clause-answered : goal.returns-in-Seen-clause-answered
 returns-in-Seen-clause-answered g c =
     let content = g.S.Shelf.content c.args.shelf.now in
@@ -99,6 +106,11 @@ pub returns-in-WhyStarts-clause-fetched : goal.returns-in-WhyStarts-clause-fetch
 returns-in-WhyStarts-clause-fetched g c =
     subst (λ (x : Question). HasFetched (own_files (asked_of x)) c.why_starts.result (g.S.Shelf.log c.args.shelf.now) (g.S.Shelf.log c.why_starts.new.shelf))
     (sym c.in-WhyStarts.is) c.why_starts.ensures.fetched
+
+pub returns-in-WhyAudit-clause-fetched : goal.returns-in-WhyAudit-clause-fetched
+returns-in-WhyAudit-clause-fetched g c =
+    subst (λ (x : Question). HasFetched (own_files (asked_of x)) c.why_audit.result (g.S.Shelf.log c.args.shelf.now) (g.S.Shelf.log c.why_audit.new.shelf))
+    (sym c.in-WhyAudit.is) c.why_audit.ensures.fetched
 
 pub returns-in-Seen-clause-fetched : goal.returns-in-Seen-clause-fetched
 returns-in-Seen-clause-fetched g c =

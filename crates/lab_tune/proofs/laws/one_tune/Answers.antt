@@ -1,5 +1,5 @@
-use Rattle.lab_tune.proofs.Single.{one_tune_in_lab}
+use Rattle.lab_tune.proofs.Single.{one_tune}
 use Rattle.lab_tune.proofs.laws.one_tune.Goals as goal
 
 pub returns : goal.returns
-returns c = one_tune_in_lab
+returns c = one_tune

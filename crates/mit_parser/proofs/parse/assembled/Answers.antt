@@ -1,4 +1,4 @@
-use Rattle.std.proofs.Common.{◌≡◌, ◌∙◌, sym, subst, Some}
+use Rattle.std.proofs.Common.{◌≡◌, Some, sym, subst}
 use Rattle.label_lattice.specs.Order.{IsOrder}
 use Rattle.mit_syntax.specs.Program.{syntax}
 use Rattle.mit_syntax.specs.Valid.{IsValid}
@@ -6,7 +6,7 @@ use Rattle.mit_parser.proofs.parse.assembled.Goals as goal
 
 pub of-requires : goal.of-requires
 of-requires c =
-    let there : c.requires.order ≡ c.in-Some.lattice = let z : Some c.requires.order ≡ Some c.in-Some.lattice = sym c.requires.there ∙ c.in-Some.is in cc in
-    let same : c.requires.order ≡ c.in_ok-lattice.lattice.value = there ∙ sym c.in_ok-lattice.ensures.ok in
-    subst (λ q. IsValid (syntax q c.args.pairs.items c.args.names.variables c.args.body.items)) same
-    (c.requires.valid (subst IsOrder (sym there) c.laws.ensures.order) c.laws-2.ensures.few c.laws-2.ensures.differ)
+    let same : c.requires.parts.order ≡ c.args.lattice.value =
+    let z : Some c.requires.parts.order ≡ Some c.args.lattice.value = sym c.requires.parts.there in cc in
+    subst (λ q. IsValid (syntax q c.args.pairs.items c.args.variables c.args.body.items)) same
+    (c.requires.parts.valid (subst IsOrder (sym same) c.requires.order) c.laws.ensures.few c.laws.ensures.differ)

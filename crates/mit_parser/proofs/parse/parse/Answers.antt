@@ -1,9 +1,10 @@
-use Rattle.std.proofs.Common.{◌≤◌, ◌^◌, ◌∙◌, ◌∷◌, [], sym, refl, length, arith}
+use Rattle.std.proofs.Common.{◌≡◌, ◌≤◌, ◌^◌, ◌∙◌, ◌∷◌, [], None, Some, sym, subst, refl, length, arith}
 use Rattle.std.proofs.lemmas.Result.{err_from_is_err_and}
 use Rattle.mit_parser.specs.Words.{told, the_end}
 use Rattle.mit_parser.specs.State.{begin}
 use Rattle.mit_parser.specs.Machine.{want, header, declarations, commands}
 use Rattle.mit_parser.specs.Headers.{IsHeader}
+use Rattle.mit_parser.specs.Assembly.{AreParts, IsAssembled}
 use Rattle.mit_parser.proofs.Rules.{told_length}
 use Rattle.mit_parser.proofs.Sound.{are_sound}
 use Rattle.mit_parser.proofs.Theorems.{refuses, more_left}
@@ -57,8 +58,8 @@ returns-in-Some c =
     c.header.new.self c.variables.new.self c.commands.new.self
     h c.in_ok-variables.ensures c.in_ok-body.ensures c.if-not-is_at_end.ensures c.laws.ensures.low c.in-Some.fault (sym c.fault.ensures ∙ c.in-Some.is)
 
-pub assembled-requires : goal.assembled-requires
-assembled-requires c =
+pub boxed-requires : goal.boxed-requires
+boxed-requires c =
     let words = told c.args.text.now c.args.tokens.now in
     let sound = are_sound c.args.text.now c.args.tokens.now c.requires.size c.requires.tokens in
     let size = told_length c.args.text.now c.args.tokens.now in
@@ -66,16 +67,33 @@ assembled-requires c =
     let short : length words ≤ 2 ^ 31 = omega (arith, size, few) in
     let h : IsHeader c.in-Ok.header.lattice c.in-Ok.header.pairs.items (begin words) c.header.new.self =
     rw c.new-parser.ensures at c.in-Ok.ensures in
-    parts words c.in-Ok.header.lattice c.in-Ok.header.pairs.items c.in_ok-variables.variables c.in_ok-body.body.items c.header.new.self
+    let parts = parts words c.in-Ok.header.lattice c.in-Ok.header.pairs.items c.in_ok-variables.variables c.in_ok-body.body.items c.header.new.self
     c.variables.new.self c.commands.new.self
-    h c.in_ok-variables.ensures c.in_ok-body.ensures c.if-not-is_at_end.ensures c.laws.ensures.low (sym c.fault.ensures ∙ c.in-None.is) sound.proper short
+    h c.in_ok-variables.ensures c.in_ok-body.ensures c.if-not-is_at_end.ensures c.laws.ensures.low (sym c.fault.ensures ∙ c.in-None.is) sound.proper short in
+    λ none. let e : Some parts.order ≡ None = sym parts.there ∙ none in cc
 
-pub returns-in-Ok-assembled : goal.returns-in-Ok-assembled
-returns-in-Ok-assembled c =
+pub assembled-requires-clause-parts : goal.assembled-requires-clause-parts
+assembled-requires-clause-parts c =
+    let words = told c.args.text.now c.args.tokens.now in
+    let sound = are_sound c.args.text.now c.args.tokens.now c.requires.size c.requires.tokens in
+    let size = told_length c.args.text.now c.args.tokens.now in
+    let few = sound.few in
+    let short : length words ≤ 2 ^ 31 = omega (arith, size, few) in
+    let h : IsHeader c.in-Ok.header.lattice c.in-Ok.header.pairs.items (begin words) c.header.new.self =
+    rw c.new-parser.ensures at c.in-Ok.ensures in
+    subst (λ l. AreParts l c.in-Ok.header.pairs.items c.in_ok-variables.variables c.in_ok-body.body.items) c.in-Ok-boxed.ensures.same
+    (parts words c.in-Ok.header.lattice c.in-Ok.header.pairs.items c.in_ok-variables.variables c.in_ok-body.body.items c.header.new.self
+    c.variables.new.self c.commands.new.self
+    h c.in_ok-variables.ensures c.in_ok-body.ensures c.if-not-is_at_end.ensures c.laws.ensures.low (sym c.fault.ensures ∙ c.in-None.is) sound.proper short)
+
+pub returns-in-Ok-boxed : goal.returns-in-Ok-boxed
+returns-in-Ok-boxed c =
     let words = told c.args.text.now c.args.tokens.now in
     let h : IsHeader c.in-Ok.header.lattice c.in-Ok.header.pairs.items (begin words) c.header.new.self =
     rw c.new-parser.ensures at c.in-Ok.ensures in
     program words c.in-Ok.header.lattice c.in-Ok.header.pairs.items c.in_ok-variables.variables c.in_ok-body.body.items c.header.new.self
     c.variables.new.self c.commands.new.self
     h c.in_ok-variables.ensures c.in_ok-body.ensures c.if-not-is_at_end.ensures c.laws.ensures.low (sym c.fault.ensures ∙ c.in-None.is)
-    c.in-Ok-assembled.program c.in-Ok-assembled.ensures
+    c.assembled.result
+    (subst (λ l. IsAssembled l c.in-Ok.header.pairs.items c.in_ok-variables.variables c.in_ok-body.body.items c.assembled.result)
+    (sym c.in-Ok-boxed.ensures.same) c.assembled.ensures)

@@ -1,4 +1,4 @@
-use Rattle.std.proofs.Common.{◌∙◌, sym, ap, Some, ℕ, List, arith}
+use Rattle.std.proofs.Common.{◌<◌, ◌∙◌, length, sym, ap, Some, ℕ, List, arith}
 use Rattle.mit_syntax.specs.Declarations.{Declaration, find_array}
 use Rattle.mit_syntax.proofs.Numbers.{read_at}
 use Rattle.mit_syntax.proofs.Named.{same_name, declared_at, declared_none, array_none, array_found, array_not}
@@ -24,6 +24,8 @@ returns-in-Some c =
     let w = c.args.name.now in
     let e = declared_at _ w (same_name w) ds c.in_ok-k.k c.entry.result c.in_ok-k.ensures.index c.entry.ensures in
     let b = c.in_ok-k.ensures.within in
-    ap (λ (f : ℕ). Some (f, c.in-Some.length)) (read_at c.self.inside.firsts.items c.in_ok-k.k c.index.result.now (omega (arith, b, c.self.invariant.all)) c.index.ensures
+    let within : c.in_ok-k.k < length c.self.inside.firsts.items = omega (arith, b, c.self.invariant.all) in
+    ap (λ (f : ℕ). Some (f, c.in-Some.length)) (read_at c.self.inside.firsts.items c.in_ok-k.k c.index.result.now within c.index.ensures
     ∙ c.self.invariant.firsts c.in_ok-k.k (omega (arith, b)))
-    ∙ sym (array_found ds w _ c.entry.result.1 e c.in-Some.length c.in-Some.is) ∙ ap (λ (l : List Declaration). find_array l w) c.self.view_is
+    ∙ sym (array_found ds w _ c.entry.result.1 e c.in-Some.length c.in-Some.is)
+    ∙ ap (λ (l : List Declaration). find_array l w) c.self.view_is

@@ -36,7 +36,10 @@ loop-k-preserved c =
 pub invariant_of-result : goal.invariant_of-result
 invariant_of-result c =
     let ds = c.args.table.entries in
-    let end : c.loop-k.k ≡ length ds = let t = c.loop-k-test.false in let b = c.loop-k.auto.k-end in let l = c.len-k-end.ensures.len in omega (arith, t, b, l) in
+    let t = c.loop-k-test.false in
+    let b = c.loop-k.auto.k-end in
+    let l = c.len-k-end.ensures.len in
+    let end : c.loop-k.k ≡ length ds = omega (arith, t, b, l) in
     let t = table_push ds c.loop-k.firsts.items c.push-2.new.self.items c.loop-k.k c.loop-k.next c.in_ok-push-2.ensures.items c.loop-k.invariant.all
     c.loop-k.invariant.next c.loop-k.invariant.firsts in
     record {

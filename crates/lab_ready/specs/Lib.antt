@@ -1,0 +1,4 @@
+pub mod Differs
+pub mod Budget
+pub mod Answer
+pub mod Begun

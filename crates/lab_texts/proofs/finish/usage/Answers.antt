@@ -1,7 +1,0 @@
-use Rattle.std.proofs.Common.{refl}
-use Rattle.lab_texts.specs.InLab.{lab_usage_text}
-use Rattle.lab_texts.proofs.finish.usage.Goals as goal
-
-pub returns : goal.returns
-unfolding lab_usage_text
-returns c = refl
