@@ -130,21 +130,21 @@ impl Flows {
 }
 
 /// Adds those from the variables and arrays of an expression.
-fn add_reads(e: &Expr, to: u32, flows: &mut Flows) -> Result<(), AllocError> {
+fn add_reads(e: &Expr, to: u32, toll: Toll, flows: &mut Flows) -> Result<(), AllocError> {
     match e {
         Expr::Number(_) => Ok(()),
-        Expr::Variable(x) => flows.add_from(*x, to, Toll::Plain),
+        Expr::Variable(x) => flows.add_from(*x, to, toll),
         Expr::Binary(_, left, right) => {
-            add_reads(left, to, flows)?;
-            add_reads(right, to, flows)
+            add_reads(left, to, toll, flows)?;
+            add_reads(right, to, toll, flows)
         }
         Expr::Element {
             first,
             length: _,
             index,
         } => {
-            flows.add_from(*first, to, Toll::Plain)?;
-            add_reads(index, to, flows)
+            flows.add_from(*first, to, toll)?;
+            add_reads(index, to, toll, flows)
         }
     }
 }
@@ -167,7 +167,7 @@ fn after(
 ) -> Result<u32, AllocError> {
     let count = flows.flows.len();
     let place = flows.place()?;
-    add_reads(e, place, flows)?;
+    add_reads(e, place, Toll::Plain, flows)?;
     flows.add_label(labels, place, Toll::Faint)?;
     joined(t, place, count, flows)
 }
@@ -183,9 +183,9 @@ fn after_set(
 ) -> Result<u32, AllocError> {
     let count = flows.flows.len();
     let place = flows.place()?;
-    add_reads(e, place, flows)?;
+    add_reads(e, place, Toll::Faint, flows)?;
     if let Some(i) = index {
-        add_reads(i, place, flows)?;
+        add_reads(i, place, Toll::Faint, flows)?;
     }
     flows.add_label(labels, place, Toll::Faint)?;
     flows.add_from(x, place, Toll::Faint)?;
@@ -196,7 +196,7 @@ fn after_set(
 fn inside(pc: u32, guard: &Expr, flows: &mut Flows) -> Result<u32, AllocError> {
     let count = flows.flows.len();
     let place = flows.place()?;
-    add_reads(guard, place, flows)?;
+    add_reads(guard, place, Toll::Plain, flows)?;
     joined(pc, place, count, flows)
 }
 
@@ -211,9 +211,9 @@ fn assigned(
     flows: &mut Flows,
 ) -> Result<u32, AllocError> {
     if flows.source(x) == x {
-        add_reads(e, x, flows)?;
+        add_reads(e, x, Toll::Plain, flows)?;
         if let Some(i) = index {
-            add_reads(i, x, flows)?;
+            add_reads(i, x, Toll::Plain, flows)?;
         }
         flows.add_label(labels, x, Toll::Plain)?;
         flows.add(pc, x, Toll::Free)?;
