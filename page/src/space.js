@@ -1,28 +1,49 @@
-// Spaces of starts: a start file of version 3, which gives ranges in place of a list of runs (docs/FORMATS.md).
+// Spaces of starts: a start file of version 3 gives values of variables in place of runs (docs/FORMATS.md).
 
 import { cellText, keyText, readStarts, valueText, writeStarts } from './starts.js';
 import { spliced } from './starts_edit.js';
 import { readToml, readTomlPlaces, TomlFault } from './toml.js';
 
-const RANGE = /^(\d{1,13})\.\.(\d{1,13})$/, NUMBER = /^-?\d{1,19}$/;
+const ITEM = /^(-?\d{1,19})(?:\.\.(-?\d{1,19}))?$/;
 const isTable = (value) => value instanceof Map;
 
-// The first value and how many there are, of an integer or a text A..B; null where it is neither.
-function intervalOf(value) {
-  if (typeof value === 'bigint') return { first: value, count: 1n };
-  const found = typeof value === 'string' ? RANGE.exec(value) : null;
-  if (!found || BigInt(found[1]) > BigInt(found[2])) return null;
-  return { first: BigInt(found[1]), count: BigInt(found[2]) - BigInt(found[1]) + 1n };
+const sum = (counts) => counts.reduce((all, { count }) => all + count, 0n);
+const only = (value) => ({ items: [{ first: value, count: 1n }], count: 1n });
+
+// The whole numbers from one to another one, of a text A or A..B; null where it is neither.
+function itemOf(text) {
+  const found = ITEM.exec(text.trim());
+  if (!found) return null;
+  const first = BigInt(found[1]), last = BigInt(found[2] ?? found[1]);
+  return first > last ? null : { first, count: last - first + 1n };
 }
 
-/** The space that a text gives: {memory, touch, count} with the intervals of each variable, lists of arrays; null where
+// The values of an integer, or of a text with items between commas: the items, and how many values there are; null
+// where it is neither.
+function choiceOf(value) {
+  if (typeof value === 'bigint') return only(value);
+  const items = typeof value === 'string' ? value.split(',').map(itemOf) : [null];
+  return items.includes(null) ? null : { items, count: sum(items) };
+}
+
+// The value with a number, from 0.
+function valueAt({ items }, number) {
+  let left = number;
+  for (const { first, count } of items) {
+    if (left < count) return first + left;
+    left -= count;
+  }
+  return 0n;
+}
+
+/** The space that a text gives: {memory, touch, count} with the values of each variable, lists of arrays; null where
     it gives none. */
 export function readSpace(text) {
   try {
     const file = readToml(text), space = file.get('space');
     if (file.get('version') !== 3n || !isTable(space)) return null;
     const memory = new Map([...space.get('memory') ?? []].map(([name, value]) =>
-      [name, Array.isArray(value) ? value.map(intervalOf) : intervalOf(value)]));
+      [name, Array.isArray(value) ? value.map(choiceOf) : choiceOf(value)]));
     const all = [...memory.values()].flat();
     if (all.includes(null)) return null;
     return { memory, touch: space.get('touch') ?? [], count: all.reduce((product, { count }) => product * count, 1n) };
@@ -39,10 +60,10 @@ export const isSpace = (text) => /^\s*version\s*=\s*3\s*(#|$)/m.test(text);
 export function startAt(space, variables, number) {
   const memory = new Map();
   let left = BigInt(number) - 1n;
-  const chosen = ({ first, count }) => {
-    const place = left % count;
-    left /= count;
-    return first + place;
+  const chosen = (choice) => {
+    const place = left % choice.count;
+    left /= choice.count;
+    return valueAt(choice, place);
   };
   for (const { name } of [...variables].reverse()) {
     const value = space.memory.get(name);
@@ -58,19 +79,19 @@ export function listed(space, variables, numbers) {
   return writeStarts({ runs });
 }
 
-const partText = ({ first, count }) => (count === 1n ? String(first) : `${first}..${first + count - 1n}`);
+const itemText = ({ first, count }) => (count === 1n ? String(first) : `${first}..${first + count - 1n}`);
+const choiceText = ({ items }) => items.map(itemText).join(',');
 
-/** Intervals as a cell shows them. */
-export const rangeText = (value) => [value].flat().map(partText).join(' ');
+/** Values as a cell shows them. */
+export const rangeText = (value) => [value].flat().map(choiceText).join(' ');
 
-/** The intervals that a cell's text says: a number, A..B, or for an array such ones with spaces between them; null
-    where it says none. */
+/** The values that a cell's text says: numbers and A..B with commas between them, or for an array such texts with
+    spaces between them; null where it says none. */
 export function rangesOf(text, isArray) {
-  const parts = text.trim().split(/[\s,]+/).filter(Boolean);
-  const all = parts.map((part) => intervalOf(NUMBER.test(part) ? BigInt(part) : part));
+  const parts = isArray ? text.trim().split(/,?\s+/).filter(Boolean) : [text];
+  const all = parts.map(choiceOf);
   if (all.length === 0 || all.includes(null)) return null;
-  if (isArray) return all;
-  return all.length === 1 ? all[0] : null;
+  return isArray ? all : all[0];
 }
 
 /** The values of a start that others of the space do not have, in words. */
@@ -80,8 +101,8 @@ export function rangedText(space, memory) {
     .map(([name, value]) => `${name} = ${cellText(value)}`).join(', ');
 }
 
-const tomlPart = (part) => (part.count === 1n ? String(part.first) : JSON.stringify(partText(part)));
-const tomlValue = (value) => (Array.isArray(value) ? `[${value.map(tomlPart).join(', ')}]` : tomlPart(value));
+const tomlChoice = (choice) => (choice.count === 1n ? choiceText(choice) : JSON.stringify(choiceText(choice)));
+const tomlValue = (value) => (Array.isArray(value) ? `[${value.map(tomlChoice).join(', ')}]` : tomlChoice(value));
 
 function written({ memory, touch }, head = '') {
   const pairs = [...memory].map(([name, value]) => `${keyText(name)} = ${tomlValue(value)}`);
@@ -92,8 +113,8 @@ function written({ memory, touch }, head = '') {
 // The comments at the head of a text.
 const headOf = (text) => /^(?:#[^\n]*\n)*/.exec(text)[0];
 
-/** A text of a space with other intervals for a variable; the rest of it stays, comments included. */
-export function withIntervals(text, name, value) {
+/** A text of a space with other values for a variable; the rest of it stays, comments included. */
+export function withValues(text, name, value) {
   const { root, tables } = readTomlPlaces(text), memory = root.get('space').get('memory');
   const entry = memory && tables.get(memory)?.entries.get(name);
   if (entry) return spliced(text, [{ from: entry.valueFrom, to: entry.to, put: tomlValue(value) }]);
@@ -107,12 +128,11 @@ export function withoutVariable(text, name) {
   return written({ ...space, memory: new Map([...space.memory].filter(([other]) => other !== name)) }, headOf(text));
 }
 
-/** The space of a list of one run, with intervals for a variable; null of other lists. */
+/** The space of a list of one run, with these values for a variable; null of other lists. */
 export function spaceOfRun(text, name, value) {
   const { runs = [], head = '' } = readStarts(text);
   if (runs.length !== 1) return null;
-  const single = (part) => ({ first: part, count: 1n });
   const memory = new Map([...runs[0].memory].map(([key, old]) =>
-    [key, Array.isArray(old) ? old.map(single) : single(old)]));
+    [key, Array.isArray(old) ? old.map(only) : only(old)]));
   return written({ memory: memory.set(name, value), touch: runs[0].touch }, head);
 }

@@ -3,7 +3,7 @@
 import { drawFreshness } from './freshness_part.js';
 import { seenTexts } from './seen.js';
 import { withCell, withColumnNamed, withCopy, withoutColumn, withoutRun, withRange } from './starts_edit.js';
-import { rangesOf, spaceOfRun, withIntervals, withoutVariable } from './space.js';
+import { rangesOf, spaceOfRun, withValues, withoutVariable } from './space.js';
 import { cellValue } from './starts.js';
 import { addersText, seenText, spaceTable, tableText } from './starts_table.js';
 import { $, answeredOf, faults, programNow, shown, spaceNow, starts, state } from './state.js';
@@ -102,13 +102,13 @@ function cellFault(cell) {
       + ' alone.';
   }
   return `${where} is ${isList ? 'no list of numbers with spaces between them, nor letters in quotes'
-    : 'no number of 64 bits'}${runs === 1 ? ', nor a range as 0..15' : ''}.`;
+    : 'no number of 64 bits'}${runs === 1 ? ', nor values as 0..15 or 1,4,9' : ''}.`;
 }
 
 // The text of the starts with what a cell says; null where it says nothing that can stand there.
 function withCellOf({ value, dataset: { row, name, array } }) {
   const isList = array === 'true', ranges = rangesOf(value, isList);
-  if (spaceNow()) return ranges && withIntervals(state.starts, name, ranges);
+  if (spaceNow()) return ranges && withValues(state.starts, name, ranges);
   const plain = cellValue(value, isList);
   if (plain !== null) return withCell(state.starts, Number(row), name, plain);
   return ranges && spaceOfRun(state.starts, name, ranges);

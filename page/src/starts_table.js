@@ -62,7 +62,7 @@ export function spaceTable(space, { variables, labels }) {
   const heads = names.map((name) => headText(name, labels, known.has(name) || variables.length === 0));
   return `<table><thead><tr><th scope="col">starts</th>${heads.join('')}</tr></thead><tbody><tr><td class="what">${
     spaced(space.count)}</td>${cells.join('')}</tr></tbody></table><p class="hint">All choices of a value for each`
-    + ' variable: a number is the one value, 0..15 are all from 0 to 15.</p>';
+    + ' variable: a number is the one value, 0..15 are all from 0 to 15, and 1,4,9 are these three.</p>';
 }
 
 /** What can be added: a column of a variable that has none, a name for a column of no variable, runs with a range. */
