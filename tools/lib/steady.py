@@ -1,5 +1,6 @@
 """What `lab steady` says of a program, by its commands: each instruction with what it asks, for `second-reading`."""
 import dataclasses
+import math
 
 COMPARISONS = ("==", "!=", "<", "<=", ">", ">=")
 
@@ -14,10 +15,27 @@ MENDS = {
     "if": "choose by arithmetic: x := (c != 0) * a + (c == 0) * b",
     "while": "loop over a public number of turns: i := 0; while i < n do { ..; i := i + 1 }",
     "index": "go through all places and choose: i := 0; while i < n do { x := x + (i == j) * a[i]; i := i + 1 }",
-    "operand": "multiply by what is short, a comparison or a number from -32768 to 32767, or choose by x := a / (c != 0) + b / (c == 0)",
+    "operand": "multiply by what is short, as c == 0, 1 - c or h % 8, or choose by x := a / (c != 0) + b / (c == 0)",
     "sleep": "sleep for a public time: sleep n",
     "estimate": "give a public estimate: mitigate (n, H) { .. }",
 }
+
+
+# A value no further from 0 than SHORT is short; of a limit past MOST, where values may wrap, none is known.
+SHORT, MOST = 2**15 - 1, 2**62
+
+
+@dataclasses.dataclass(frozen=True)
+class Known:
+    """What is known of the values of an expression in two runs: that they are the same, that neither is 0, and a limit to how far from 0 both are."""
+
+    same: bool
+    is_nonzero: bool = False
+    limit: int | None = None
+
+    def is_level(self):
+        """Whether both are equal, or both short."""
+        return self.same or (self.limit is not None and self.limit <= SHORT)
 
 
 @dataclasses.dataclass
@@ -54,6 +72,21 @@ def constant_of(word):
     return names if all(name in NAMES for name in names) else None
 
 
+def limit_of(operator, left, right):
+    """A limit to how far from 0 is what an operator makes, where one is known."""
+    if operator in COMPARISONS:
+        return 1
+    if operator == "%":
+        # By 0 the dividend remains; by another number what remains is nearer to 0 than that.
+        by_divisor = right.limit - 1 if right.is_nonzero and right.limit is not None else None
+        return min((limit for limit in (left.limit, by_divisor) if limit is not None), default=None)
+    needed = (left.limit,) if operator == "/" else (left.limit, right.limit)
+    if None in needed:
+        return None
+    limit = {"/": min, "*": math.prod}.get(operator, sum)(needed)
+    return limit if limit <= MOST else None
+
+
 class Judgement:
     """The instructions of a program for an observer, and its first fault; by the table's costs of operators, or by names of constant ones."""
 
@@ -67,21 +100,21 @@ class Judgement:
     def enough(self, operator, known):
         """Whether enough is known of an operand, so that two runs pay the same for the operator."""
         if self.constant is None:
-            return operator != "*" or any(known)
-        return known[0] or any(operator in operators(name) for name in self.constant)
+            return operator != "*" or known.is_level()
+        return known.same or any(operator in operators(name) for name in self.constant)
 
     def value(self, command, expression, label):
-        """What is known of a value: that it is the same in two runs, and that it is short."""
+        """What is known of a value."""
         step = Step(command, label)
-        same = is_short = False
         if expression[0] == "number":
-            same, is_short = True, -(2**15) <= expression[1] < 2**15
+            far = abs(expression[1])
+            known = Known(True, far > 0, far if far <= MOST else None)
         elif expression[0] == "variable":
-            same = self.sees[expression[1]]
+            known = Known(self.sees[expression[1]])
         elif expression[0] == "element":
-            if not self.value(command, expression[3], label)[0]:
+            if not self.value(command, expression[3], label).same:
                 step.reason, step.blamed = "index", expression[3]
-            same = self.sees[expression[1]]
+            known = Known(self.sees[expression[1]])
         else:
             left = self.value(command, expression[2], label)
             right = self.value(command, expression[3], label)
@@ -89,13 +122,13 @@ class Judgement:
                 step.reason, step.blamed = "operand", expression[3]
             elif not self.enough(expression[1], left):
                 step.reason, step.blamed = "operand", expression[2]
-            same, is_short = left[0] and right[0], expression[1] in COMPARISONS
+            known = Known(left.same and right.same, limit=limit_of(expression[1], left, right))
         self.steps.append(step)
-        return same, is_short
+        return known
 
     def needs(self, command, label, reason):
         """The code of a command's value, and an instruction that needs it to be the same."""
-        same = self.value(command, command["value"], label)[0]
+        same = self.value(command, command["value"], label).same
         self.steps.append(Step(command, label, "" if same else reason, command["value"]))
         return self.steps[-1]
 
@@ -109,7 +142,7 @@ class Judgement:
             self.steps.append(Step(command, label))
         elif form in ("assign", "put"):
             is_seen = self.sees[command["name"][1]]
-            index = form == "assign" or self.value(command, command["index"], label)[0]
+            index = form == "assign" or self.value(command, command["index"], label).same
             step = self.needs(command, label, "assigned" if is_seen else "")
             step.shows = is_seen
             if not index:

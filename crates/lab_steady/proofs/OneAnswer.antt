@@ -70,7 +70,7 @@ module _ (costing : Costing) where
   one_told_no : (text : List ℕ) (tokens : List Token) (q : LabelledProgram) (o h : ℕ) (f : Fault) (t u : List ℕ) → TellsNo costing text tokens q o h f t
       → TellsNo costing text tokens q o h f u → t ≡ u
   one_told_no text tokens q o h f t u a b =
-      a.2 ∙ ap (λ (z : List ℕ). no_text costing q o h tokens z f) (one_blamed text tokens q (blamed_of costing q o f) a.0 b.0 a.1 b.1) ∙ sym b.2
+      a.2 ∙ ap (λ (z : List ℕ). no_text costing q o h tokens z f) (one_blamed text tokens q (blamed_of q o f) a.0 b.0 a.1 b.1) ∙ sym b.2
 
   one_no : (text : List ℕ) (q : LabelledProgram) (o h : ℕ) (whole : Bool) (t x : List ℕ) → IsNo costing text q o h whole t
       → IsNo costing text q o h whole x → t ≡ x

@@ -1,18 +1,14 @@
 -- Which variable is to blame for a fault: the last one that is read for the value that may differ, and is not seen.
-use Rattle.std.specs.Prelude.{ℕ, zero, suc, ◌+◌, leb, List, Bool, true, false, cond, Option, Some, None, slice_get}
-use Rattle.mit_syntax.specs.declared.ast.Op.{Op}
-use Rattle.mit_syntax.specs.declared.ast.Op.TheVariants.{Add, Sub, Mul, Div, Rem, Eq, Ne, Lt, Le, Gt, Ge}
+use Rattle.std.specs.Prelude.{ℕ, zero, suc, ◌+◌, leb, List, Bool, cond, Option, Some, None, slice_get}
 use Rattle.label_code.specs.declared.code.Work.{Work}
 use Rattle.label_code.specs.declared.code.Work.TheVariants.{Push, Load, Store, LoadAt, StoreAt, Apply, Brz, Brnz, Jmp, Sleep, Mitb, Mite, Nop, Halt}
 use Rattle.label_code.specs.declared.code.Instr.{Instr}
 use Rattle.label_code.specs.Shaped.{takes}
 use Rattle.steady_code.specs.declared.fault.Reason.{Reason}
-use Rattle.steady_code.specs.declared.fault.Reason.TheVariants.{Felt, Guard, Index, Assigned, Operand, Wait, Estimate, Target, Seen}
+use Rattle.steady_code.specs.declared.fault.Reason.TheVariants.{Felt, Guard, Index, Assigned, Left, Right, Wait, Estimate, Target, Seen}
 use Rattle.timing_types.specs.Labelled.{LabelledProgram, order_of, labels_of}
 use Rattle.code_lower.specs.Lowered.{lowered}
 use Rattle.steady_code.specs.declared.fault.Fault.{Fault}
-use Rattle.steady_code.specs.declared.costing.Costing.{Costing}
-use Rattle.steady_code.specs.declared.costing.Costing.TheVariants.{Table, Only}
 use Rattle.steady_code.specs.Timed.{low_of}
 use Rattle.lab_steady.specs.Owner.{or_else}
 
@@ -52,56 +48,6 @@ begin_of image zero a = a
 begin_of image (suc k) zero = zero
 begin_of image (suc k) (suc a) = begin_of image (k + taken (slice_get image a)) a
 
--- whether a comparison is made just before a place
-abbrev pub compares : Op → Bool
-compares Add = false
-compares Sub = false
-compares Mul = false
-compares Div = false
-compares Rem = false
-compares Eq = true
-compares Ne = true
-compares Lt = true
-compares Le = true
-compares Gt = true
-compares Ge = true
-
-abbrev pub is_comparison : Work → Bool
-is_comparison (Push n) = false
-is_comparison (Load x) = false
-is_comparison (Store x) = false
-is_comparison (LoadAt f n) = false
-is_comparison (StoreAt f n) = false
-is_comparison (Apply o) = compares o
-is_comparison (Brz b) = false
-is_comparison (Brnz b) = false
-is_comparison (Jmp b) = false
-is_comparison Sleep = false
-is_comparison (Mitb l k) = false
-is_comparison Mite = false
-is_comparison Nop = false
-is_comparison Halt = false
-
-abbrev pub compared_by : Option Instr → Bool
-compared_by None = false
-compared_by (Some i) = is_comparison i.work
-
-abbrev pub is_compared : List Instr → ℕ → Bool
-is_compared image zero = false
-is_compared image (suc a) = compared_by (slice_get image a)
-
--- whether what is made just before a place is short enough for a product, by the table: a comparison is
-abbrev pub is_short_enough : Costing → List Instr → ℕ → Bool
-is_short_enough Table image a = is_compared image a
-is_short_enough (Only c) image a = false
-
--- The side of an operator that is to blame: the right one, unless all that it reads is seen or it is short enough; else
--- the left one.
-abbrev pub hidden_side : Costing → (ℕ → Bool) → List Instr → ℕ → Option ℕ
-hidden_side costing low image a =
-    let m = begin_of image 1 a in
-    or_else (cond (is_short_enough costing image a) None (hidden_in low image m a)) (hidden_in low image 0 m)
-
 -- An index stands just before its instruction, or before the value that is assigned.
 abbrev pub index_end : List Instr → ℕ → Work → ℕ
 index_end image a (Push n) = a
@@ -119,24 +65,26 @@ index_end image a Mite = a
 index_end image a Nop = a
 index_end image a Halt = a
 
--- the variable to blame for a fault of the instruction at a place
-abbrev pub blamed : Costing → (ℕ → Bool) → List Instr → ℕ → Work → Reason → Option ℕ
-blamed costing low image a w Felt = None
-blamed costing low image a w Guard = hidden_in low image 0 a
-blamed costing low image a w Index = hidden_in low image 0 (index_end image a w)
-blamed costing low image a w Assigned = hidden_in low image 0 a
-blamed costing low image a w Operand = hidden_side costing low image a
-blamed costing low image a w Wait = hidden_in low image 0 a
-blamed costing low image a w Estimate = hidden_in low image 0 a
-blamed costing low image a w Target = None
-blamed costing low image a w Seen = None
+-- The variable to blame for a fault of the instruction at a place. The code of a left operand ends where that of the right one
+-- begins.
+abbrev pub blamed : (ℕ → Bool) → List Instr → ℕ → Work → Reason → Option ℕ
+blamed low image a w Felt = None
+blamed low image a w Guard = hidden_in low image 0 a
+blamed low image a w Index = hidden_in low image 0 (index_end image a w)
+blamed low image a w Assigned = hidden_in low image 0 a
+blamed low image a w Left = hidden_in low image 0 (begin_of image 1 a)
+blamed low image a w Right = hidden_in low image 0 a
+blamed low image a w Wait = hidden_in low image 0 a
+blamed low image a w Estimate = hidden_in low image 0 a
+blamed low image a w Target = None
+blamed low image a w Seen = None
 
-abbrev pub blamed_by : Costing → (ℕ → Bool) → List Instr → ℕ → Reason → Option Instr → Option ℕ
-blamed_by costing low image a r None = None
-blamed_by costing low image a r (Some i) = blamed costing low image a i.work r
+abbrev pub blamed_by : (ℕ → Bool) → List Instr → ℕ → Reason → Option Instr → Option ℕ
+blamed_by low image a r None = None
+blamed_by low image a r (Some i) = blamed low image a i.work r
 
 -- for a fault of the image of a program, for an observer
-abbrev pub blamed_of : Costing → LabelledProgram → ℕ → Fault → Option ℕ
-blamed_of costing q o f =
+abbrev pub blamed_of : LabelledProgram → ℕ → Fault → Option ℕ
+blamed_of q o f =
     let image = (lowered q).instrs in
-    blamed_by costing (low_of (order_of q) (labels_of q) o) image f.place f.reason (slice_get image f.place)
+    blamed_by (low_of (order_of q) (labels_of q) o) image f.place f.reason (slice_get image f.place)

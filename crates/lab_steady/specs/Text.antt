@@ -13,7 +13,7 @@ use Rattle.steady_code.specs.declared.costing.Constant.{Constant}
 use Rattle.steady_code.specs.declared.costing.Costing.{Costing}
 use Rattle.steady_code.specs.declared.costing.Costing.TheVariants.{Table, Only}
 use Rattle.steady_code.specs.declared.fault.Reason.{Reason}
-use Rattle.steady_code.specs.declared.fault.Reason.TheVariants.{Felt, Guard, Index, Assigned, Operand, Wait, Estimate, Target, Seen}
+use Rattle.steady_code.specs.declared.fault.Reason.TheVariants.{Felt, Guard, Index, Assigned, Left, Right, Wait, Estimate, Target, Seen}
 use Rattle.steady_code.specs.Timed.{low_of}
 use Rattle.flow_print.specs.Lines.{label_text, variable_text}
 use Rattle.lab_steady.specs.Owner.{owner}
@@ -73,7 +73,8 @@ reason_text Felt = codes "read label"
 reason_text Guard = codes "guard"
 reason_text Index = codes "index"
 reason_text Assigned = codes "assigned"
-reason_text Operand = codes "operand"
+reason_text Left = codes "operand"
+reason_text Right = codes "operand"
 reason_text Wait = codes "sleep"
 reason_text Estimate = codes "estimate"
 reason_text Target = codes "jump"
@@ -110,7 +111,8 @@ is_felt Felt = true
 is_felt Guard = false
 is_felt Index = false
 is_felt Assigned = false
-is_felt Operand = false
+is_felt Left = false
+is_felt Right = false
 is_felt Wait = false
 is_felt Estimate = false
 is_felt Target = false
@@ -130,4 +132,4 @@ abbrev pub no_text : Costing → LabelledProgram → ℕ → ℕ → List Token 
 no_text costing q o h tokens lines f =
     let at = owner (plan_of q.program) 0 f.place in
     begin_text f.reason at
-    ++ (instr_lines q o h lines (blamed_of costing q o f) (slice_get (lowered q).instrs f.place) f.reason ++ mend_line costing (kind_there tokens at) f.reason)
+    ++ (instr_lines q o h lines (blamed_of q o f) (slice_get (lowered q).instrs f.place) f.reason ++ mend_line costing (kind_there tokens at) f.reason)

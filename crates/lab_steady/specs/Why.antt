@@ -24,4 +24,4 @@ TellsBlamed text tokens q v t = MatchOption v (t ≡ []) (λ x. TellsVariable te
 -- the text of a no, by the fault that is told
 abbrev pub TellsNo : Costing → List ℕ → List Token → LabelledProgram → ℕ → ℕ → Fault → List ℕ → Type 0
 TellsNo costing text tokens q o h f t =
-    (lines : List ℕ) × TellsBlamed text tokens q (blamed_of costing q o f) lines × (t ≡ no_text costing q o h tokens lines f)
+    (lines : List ℕ) × TellsBlamed text tokens q (blamed_of q o f) lines × (t ≡ no_text costing q o h tokens lines f)

@@ -5,14 +5,11 @@ ghost use Rattle.timing_types.specs.Labelled.{order_of, labels_of};
 ghost use Rattle.label_code.specs.Shaped.{takes as operands_taken};
 ghost use Rattle.code_lower.specs.Lowered.{lowered};
 ghost use Rattle.steady_code.specs.Timed.{low_of};
-ghost use Rattle.lab_steady.specs.Blame.{begin_of, blamed as variable_blamed, blamed_of, hidden as hidden_variable, hidden_in, hidden_side, index_end};
-ghost use Rattle.lab_steady.specs.Blame.{is_comparison as makes_comparison, is_compared, is_short_enough as short_enough, compares as op_compares};
+ghost use Rattle.lab_steady.specs.Blame.{begin_of, blamed as variable_blamed, blamed_of, hidden as hidden_variable, hidden_in, index_end};
 
 use label_code::code::Work;
 use label_code::image::Image;
 use label_lattice::label::Label;
-use mit_syntax::ast::Op;
-use steady_code::costing::Costing;
 use steady_code::fault::{Fault, Reason};
 use timing_types::labelled::Labelled;
 
@@ -93,63 +90,6 @@ fn begin(image: &Image, place: u32) -> u32
     at
 }
 
-/// Whether an operator compares.
-fn compares(op: Op) -> bool
-    ensures { result ≡ op_compares op }
-{
-    match op {
-        Op::Eq | Op::Ne | Op::Lt | Op::Le | Op::Gt | Op::Ge => true,
-        Op::Add | Op::Sub | Op::Mul | Op::Div | Op::Rem => false,
-    }
-}
-
-fn is_comparison(work: Work) -> bool
-    ensures { result ≡ makes_comparison work }
-{
-    match work {
-        Work::Apply(op) => compares(op),
-        _ => false,
-    }
-}
-
-/// Whether a comparison is made just before a place.
-fn compared(image: &Image, place: u32) -> bool
-    requires { place ≤ length image.now.instrs }
-    ensures { result ≡ is_compared image.now.instrs place }
-{
-    if place == 0 {
-        return false;
-    }
-    is_comparison(image.at(place - 1).work)
-}
-
-/// Whether what is made just before a place is short enough for a product, by the table.
-fn is_short_enough(costing: Costing, image: &Image, place: u32) -> bool
-    requires { place ≤ length image.now.instrs }
-    ensures { result ≡ short_enough costing image.now.instrs place }
-{
-    match costing {
-        Costing::Table => compared(image, place),
-        Costing::Only(_) => false,
-    }
-}
-
-/// The side of an operator that is to blame.
-fn side(p: &Labelled, observer: Label, costing: Costing, image: &Image, place: u32) -> Option<u32>
-    requires { place ≤ length image.now.instrs }
-    ensures { result ≡ hidden_side costing (low_of (order_of p.now) (labels_of p.now) observer.number) image.now.instrs place }
-{
-    let middle = begin(image, place);
-    if is_short_enough(costing, image, place) {
-        return last_hidden(p, observer, image, 0, middle);
-    }
-    let right = last_hidden(p, observer, image, middle, place);
-    if right.is_some() {
-        return right;
-    }
-    last_hidden(p, observer, image, 0, middle)
-}
-
 /// Where the code of an index ends.
 fn after_index(image: &Image, place: u32, work: Work) -> u32
     requires { place ≤ length image.now.instrs }
@@ -166,21 +106,22 @@ fn after_index(image: &Image, place: u32, work: Work) -> u32
 fn blamed(
     p: &Labelled,
     observer: Label,
-    costing: Costing,
     image: &Image,
     place: u32,
     work: Work,
     reason: Reason,
 ) -> Option<u32>
     requires { place ≤ length image.now.instrs }
-    ensures { result ≡ variable_blamed costing (low_of (order_of p.now) (labels_of p.now) observer.number) image.now.instrs place work reason }
+    ensures { result ≡ variable_blamed (low_of (order_of p.now) (labels_of p.now) observer.number) image.now.instrs place work reason }
 {
     match reason {
-        Reason::Guard | Reason::Assigned | Reason::Wait | Reason::Estimate => {
-            last_hidden(p, observer, image, 0, place)
-        }
+        Reason::Guard
+        | Reason::Assigned
+        | Reason::Right
+        | Reason::Wait
+        | Reason::Estimate => last_hidden(p, observer, image, 0, place),
         Reason::Index => last_hidden(p, observer, image, 0, after_index(image, place, work)),
-        Reason::Operand => side(p, observer, costing, image, place),
+        Reason::Left => last_hidden(p, observer, image, 0, begin(image, place)),
         Reason::Felt | Reason::Target | Reason::Seen => None,
     }
 }
@@ -189,14 +130,13 @@ fn blamed(
 pub(crate) fn blamed_for(
     p: &Labelled,
     observer: Label,
-    costing: Costing,
     image: &Image,
     fault: Fault,
 ) -> Option<u32>
     requires image { image.now ≡ lowered p.now }
     requires place { fault.place < length image.now.instrs }
-    ensures { result ≡ blamed_of costing p.now observer.number fault }
+    ensures { result ≡ blamed_of p.now observer.number fault }
 {
     let work = image.at(fault.place).work;
-    blamed(p, observer, costing, image, fault.place, work, fault.reason)
+    blamed(p, observer, image, fault.place, work, fault.reason)
 }

@@ -59,10 +59,10 @@ pub(crate) fn mend_line(costing: Costing, kind: TokenKind, reason: Reason) -> &'
                 b"mend: go through all places and choose: i := 0; while i < n do { x := x + (i == j) * a[i]; i := i + 1 }\n".as_slice(),
             )
         }
-        Reason::Operand => {
+        Reason::Left | Reason::Right => {
             by_table(
                 costing,
-                b"mend: multiply by what is short, a comparison or a number from -32768 to 32767, or choose by x := a / (c != 0) + b / (c == 0)\n".as_slice(),
+                b"mend: multiply by what is short, as c == 0, 1 - c or h % 8, or choose by x := a / (c != 0) + b / (c == 0)\n".as_slice(),
             )
         }
         Reason::Wait => b"mend: sleep for a public time: sleep n\n".as_slice(),

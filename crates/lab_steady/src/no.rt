@@ -61,7 +61,8 @@ fn is_felt(reason: Reason) -> bool
         Reason::Guard
         | Reason::Index
         | Reason::Assigned
-        | Reason::Operand
+        | Reason::Left
+        | Reason::Right
         | Reason::Wait
         | Reason::Estimate
         | Reason::Target
@@ -104,7 +105,7 @@ fn no_lines(
 ) -> Result<Vec<u8>, AllocError>
     requires image { image.now ≡ lowered p.now }
     requires place { fault.place < length image.now.instrs }
-    requires variable { variable ≡ blamed_of costing p.now observer.number fault }
+    requires variable { variable ≡ blamed_of p.now observer.number fault }
     ensures { IfOk result (λ v. v.items ≡ text_of_no costing p.now observer.number parts.number tokens.now lines.now fault) }
 {
     let mut out = Vec::new(alloc);
@@ -145,7 +146,7 @@ pub(crate) fn no_text(
     requires place { fault.place < length image.now.instrs }
     ensures { IfOk result (λ v. TellsNo costing text.now tokens.now p.now observer.number parts.number fault v.items) }
 {
-    let variable = blamed_for(p, observer, costing, image, fault);
+    let variable = blamed_for(p, observer, image, fault);
     let lines = blamed_lines(alloc, p, text, tokens, variable)?;
     Ok(no_lines(
         alloc,

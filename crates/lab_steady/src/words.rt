@@ -49,7 +49,7 @@ fn reason_words(reason: Reason) -> &'static [u8]
         Reason::Guard => b"guard".as_slice(),
         Reason::Index => b"index".as_slice(),
         Reason::Assigned => b"assigned".as_slice(),
-        Reason::Operand => b"operand".as_slice(),
+        Reason::Left | Reason::Right => b"operand".as_slice(),
         Reason::Wait => b"sleep".as_slice(),
         Reason::Estimate => b"estimate".as_slice(),
         Reason::Target => b"jump".as_slice(),

@@ -1,9 +1,10 @@
 //! Which costs of operators are asked about.
 
 ghost use Rattle.std.specs.Prelude.{◌≡◌};
-ghost use Rattle.steady_code.specs.Steady.{costs_same as same_cost};
+ghost use Rattle.steady_code.specs.Steady.{costs_same as same_cost, is_levelled as levelled};
 ghost use Rattle.steady_code.specs.Costing.{is_named as names, settled_by};
 
+use crate::bound::is_small;
 use crate::tag::Tag;
 use mit_syntax::ast::Op;
 
@@ -27,12 +28,19 @@ pub enum Costing {
     Only(Constant),
 }
 
+/// Whether two values are equal or equally short, as far as is known.
+fn is_levelled(tag: Tag) -> bool
+    ensures { result ≡ levelled tag }
+{
+    tag.same || is_small(tag.bound)
+}
+
 /// Whether an operator costs the same in both runs by the machine's table, as far as is known of its operands.
 fn costs_same(op: Op, left: Tag, right: Tag) -> bool
     ensures { result ≡ same_cost op left right }
 {
     match op {
-        Op::Mul => (left.same || left.short) && (right.same || right.short),
+        Op::Mul => is_levelled(left) && is_levelled(right),
         _ => true,
     }
 }
