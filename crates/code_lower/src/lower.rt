@@ -55,9 +55,7 @@ pub fn lower_labelled(alloc: Global, labelled: &Labelled) -> Result<Image, Lower
     let bottom = order.bottom();
     put(&mut code, Work::Halt, (bottom, bottom))?;
     let variables = program.variables();
-    let Ok(lattice) = Box::new(alloc, *order) else {
-        return Err(LowerFault::Memory);
-    };
+    let lattice = program.shared_lattice().clone()?;
     Ok(Image::of(
         code,
         variables,

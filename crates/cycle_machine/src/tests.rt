@@ -13,6 +13,7 @@ use run_watch::{RunNumber, Watch, Watched};
 use sample_lattice::one_label;
 use std::alloc::Global;
 use std::cell::Cell;
+use std::rc::Rc;
 use text_base::pos::Memory;
 
 // The code of `mitigate (64, L) { a[5] := 7 }` for an array of length 4.
@@ -64,7 +65,7 @@ fn mitigated_code(alloc: Global, lattice: Lattice) -> Result<Image, Memory>
             ew: low
         },
     ]?;
-    Ok(Image::of(instrs, 4, Box::new(alloc, lattice)?, 2, 1))
+    Ok(Image::of(instrs, 4, Rc::new(alloc, lattice)?, 2, 1))
 }
 
 // What the run tells, without costs of accesses: the assignment takes 3 cycles, the mitigation 64.

@@ -9,6 +9,7 @@ use crate::flat::FlatEnv;
 use crate::place::Touch;
 use label_lattice::lattice::Lattice;
 use std::alloc::Global;
+use std::rc::Rc;
 use text_base::pos::Memory;
 
 /// Makes the environment that a lattice and a list of touches give.
@@ -19,11 +20,11 @@ pub trait MakeEnv<E: MachineEnv> {
     ghost made: { Self → Order → List Touch → E };
 
     /// The environment after the touches, the earliest first. It serves the lattice, whose labels those
-    /// of the touches are. Fails only for want of memory.
-    fn make(&self, alloc: Global, lattice: &Lattice, touches: &[Touch]) -> Result<E, Memory>
-        requires { All (λ t. t.label.number < lattice.now.size) touches.now }
-        ensures value { IfOk result (λ e. e ≡ made self.now lattice.now touches.now) }
-        ensures serves { IfOk result (E.serves lattice.now) };
+    /// of the touches are, and may share it. Fails only for want of memory.
+    fn make(&self, alloc: Global, lattice: &Rc<Lattice>, touches: &[Touch]) -> Result<E, Memory>
+        requires { All (λ t. t.label.number < lattice.now.value.size) touches.now }
+        ensures value { IfOk result (λ e. e ≡ made self.now lattice.now.value touches.now) }
+        ensures serves { IfOk result (E.serves lattice.now.value) };
 }
 
 /// Makes flat environments, which no touch changes.
@@ -36,7 +37,7 @@ impl MakeEnv<FlatEnv> for MakeFlat {
     fn make(
         &self,
         _alloc: Global,
-        _lattice: &Lattice,
+        _lattice: &Rc<Lattice>,
         _touches: &[Touch],
     ) -> Result<FlatEnv, Memory> {
         Ok(FlatEnv::new())

@@ -17,6 +17,7 @@ use label_lattice::label::Label;
 use label_lattice::lattice::Lattice;
 use part_tlb::bank::Hardware;
 use std::alloc::Global;
+use std::rc::Rc;
 use text_base::pos::Memory;
 
 /// A machine with what its banks hold.
@@ -32,16 +33,16 @@ impl HardwareEnv {
     /// The machine in which the touches were made, the earliest first. Fails only for want of memory.
     pub fn new(
         alloc: Global,
-        lattice: &Lattice,
+        lattice: &Rc<Lattice>,
         hardware: Hardware,
         touches: &[Touch],
     ) -> Result<HardwareEnv, Memory>
         requires banks { HasBanks hardware }
         requires small { AreSmall hardware }
         requires cheap { IsCheap hardware }
-        requires touches { All (λ t. t.label.number < lattice.now.size) touches.now }
-        ensures value { IfOk result (λ e. e ≡ machine_warmed (empty_machine hardware lattice.now) touches.now) }
-        ensures history { IfOk result (λ e. Keeps hardware lattice.now e touches.now) }
+        requires touches { All (λ t. t.label.number < lattice.now.value.size) touches.now }
+        ensures value { IfOk result (λ e. e ≡ machine_warmed (empty_machine hardware lattice.now.value) touches.now) }
+        ensures history { IfOk result (λ e. Keeps hardware lattice.now.value e touches.now) }
     {
         let mut env = HardwareEnv::empty(alloc, lattice, hardware)?;
         for touch in touches {
@@ -51,10 +52,10 @@ impl HardwareEnv {
     }
 
     // The machine with nothing in its banks. Fails only for want of memory.
-    fn empty(alloc: Global, lattice: &Lattice, hardware: Hardware) -> Result<HardwareEnv, Memory>
+    fn empty(alloc: Global, lattice: &Rc<Lattice>, hardware: Hardware) -> Result<HardwareEnv, Memory>
         requires banks { HasBanks hardware }
         requires small { AreSmall hardware }
-        ensures { IfOk result (λ e. e ≡ empty_machine hardware lattice.now) }
+        ensures { IfOk result (λ e. e ≡ empty_machine hardware lattice.now.value) }
     {
         let buffer = seat_for(alloc, lattice, hardware.buffer, hardware.sharing)?;
         let code_cache = seat_for(alloc, lattice, hardware.code_cache, hardware.sharing)?;

@@ -12,6 +12,7 @@ use label_lattice::lattice::Lattice;
 use part_tlb::bank::Hardware;
 use part_tlb::by_history::ByHistory;
 use std::alloc::Global;
+use std::rc::Rc;
 use text_base::pos::Memory;
 
 /// Makes environments of a machine, which is within the limits.
@@ -29,7 +30,7 @@ impl MakeEnv<HardwareEnv> for MakeHardware {
     fn make(
         &self,
         alloc: Global,
-        lattice: &Lattice,
+        lattice: &Rc<Lattice>,
         touches: &[Touch],
     ) -> Result<HardwareEnv, Memory> {
         HardwareEnv::new(alloc, lattice, self.hardware, touches)

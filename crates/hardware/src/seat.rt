@@ -13,6 +13,7 @@ use label_lattice::lattice::Lattice;
 use part_cache::cache::PartCache;
 use part_tlb::bank::{Bank, Sharing};
 use std::alloc::Global;
+use std::rc::Rc;
 use text_base::pos::Memory;
 
 /// A bank, who shares it, and a cache of its sizes with a partition for each label.
@@ -27,13 +28,13 @@ impl Seat {
     /// The bank with nothing in it. Fails only for want of memory.
     pub fn new(
         alloc: Global,
-        lattice: &Lattice,
+        lattice: &Rc<Lattice>,
         bank: Bank,
         sharing: Sharing,
     ) -> Result<Seat, Memory>
         requires bank { IsBank bank }
         requires small { IsSmall bank }
-        ensures { IfOk result (λ s. s ≡ empty_seat sharing lattice.now bank) }
+        ensures { IfOk result (λ s. s ≡ empty_seat sharing lattice.now.value bank) }
     {
         let cache = PartCache::new(alloc, lattice, bank.sets, bank.ways)?;
         Ok(Seat {
@@ -134,13 +135,13 @@ pub fn touch_at(seat: &mut Option<Seat>, address: u32, label: Label)
 /// An empty bank, where there is to be one. Fails only for want of memory.
 pub fn seat_for(
     alloc: Global,
-    lattice: &Lattice,
+    lattice: &Rc<Lattice>,
     bank: Option<Bank>,
     sharing: Sharing,
 ) -> Result<Option<Seat>, Memory>
     requires bank { IfSome bank IsBank }
     requires small { IfSome bank IsSmall }
-    ensures { IfOk result (λ s. s ≡ empty_option sharing lattice.now bank) }
+    ensures { IfOk result (λ s. s ≡ empty_option sharing lattice.now.value bank) }
 {
     match bank {
         None => Ok(None),

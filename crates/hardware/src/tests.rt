@@ -11,6 +11,7 @@ use label_lattice::lattice::Lattice;
 use part_tlb::bank::{Bank, Hardware, Sharing};
 use sample_lattice::{HIGH, LOW, two_labels};
 use std::alloc::Global;
+use std::rc::Rc;
 
 const BUFFER: Bank = Bank {
     sets: 1,
@@ -92,8 +93,8 @@ fn first_wrong(env: &mut HardwareEnv, column: usize) -> Option<usize>
 }
 
 // A machine with nothing in it; none where memory is wanting.
-fn empty(alloc: Global, lattice: &Lattice, hardware: Hardware, column: usize) -> Option<usize>
-    requires size { 2 ≤ lattice.now.size }
+fn empty(alloc: Global, lattice: &Rc<Lattice>, hardware: Hardware, column: usize) -> Option<usize>
+    requires size { 2 ≤ lattice.now.value.size }
     requires column { column ≤ 3 }
 {
     if !is_within(hardware) {
@@ -108,6 +109,7 @@ fn empty(alloc: Global, lattice: &Lattice, hardware: Hardware, column: usize) ->
 #[test]
 fn costs_as_another_program_says(rt: HostRuntime) {
     let lattice = two_labels().expect(&rt, "a lattice");
+    let lattice = Rc::new(rt.alloc(), lattice).expect(&rt, "memory");
     let alloc = rt.alloc();
     assert_eq!(rt;
         empty(alloc, &lattice, machine(None, Sharing::Partitioned), 0),

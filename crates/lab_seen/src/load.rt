@@ -30,7 +30,7 @@ pub fn load<'a, E: MachineEnv + Drop, M: MakeEnv<E>>(
     ensures runs { IfOk result (λ m. (t : ℕ) → rest_of E.env t m
         ≡ told_by (run_from E.env image.now.instrs t (start_of (M.made maker.now) p.now.program.order (seen start.now)))) }
 {
-    let env = maker.make(alloc, image.lattice(), start.touches.as_slice())?;
+    let env = maker.make(alloc, image.shared_lattice(), start.touches.as_slice())?;
     let memory = start.memory.clone()?;
     let machine = Machine::load(alloc, image, memory, env)?;
     Ok(machine)

@@ -5,6 +5,7 @@ use crate::code::Instr;
 use label_lattice::label::MAX_LABELS;
 use label_lattice::lattice::Lattice;
 use std::marker::Model;
+use std::rc::Rc;
 
 /// The most instructions that an image may have, its HALT included.
 pub const MAX_INSTRUCTIONS: u32 = 200_000;
@@ -23,7 +24,7 @@ pub fn is_too_long(count: u64) -> bool
 pub struct Image {
     instrs: Vec<Instr>,
     variables: u32,
-    lattice: Box<Lattice>,
+    lattice: Rc<Lattice>,
     operands: u32,
     nesting: u32,
 }
@@ -50,7 +51,7 @@ impl Image {
     pub fn of(
         instrs: Vec<Instr>,
         variables: u32,
-        lattice: Box<Lattice>,
+        lattice: Rc<Lattice>,
         operands: u32,
         nesting: u32,
     ) -> Self
@@ -99,6 +100,13 @@ impl Image {
     /// The lattice of the code's labels.
     pub fn lattice(&self) -> &Lattice
         ensures { result.now ≡ self.now.order }
+    {
+        &self.lattice
+    }
+
+    /// The same, to be shared.
+    pub fn shared_lattice(&self) -> &Rc<Lattice>
+        ensures { result.now.value ≡ self.now.order }
     {
         &self.lattice
     }

@@ -32,7 +32,7 @@ pub given_form : (k : Known) (x : ℕ) (l : Label) (r : LeftSide) → written_at
     → r ≡ variable_form (lat_of k) (free_of k) (written_of k) x
 given_form k x l r h e =
     let one : LeftSide = record { base = (lat_of k).bottom; has = λ y. eqb x y } in
-    e ∙ sym (ap (λ o. cond (is_none o) one (fixed (label_or o k.order.bottom))) h)
+    e ∙ sym (ap (λ o. cond (is_none o) one (fixed (label_or o k.order.now.bottom))) h)
 
 -- the condition on a variable's label
 pub set_omitted : (k : Known) (x : ℕ) (d : LeftSide) (m0 m1 : List Constraint) → is_none (written_at k x) ≡ true

@@ -106,7 +106,7 @@ past_get [] x d h = refl
 past_get (o ∷ os) zero d h = absurd (omega (arith, h))
 past_get (o ∷ os) (suc x) d h = past_get os x d (omega (arith, h))
 
-module _ (s : Syntax) (valid : IsValid s) (k : Known) (ho : k.order ≡ s.order) (fit : length k.written.items ≡ variables s.declarations)
+module _ (s : Syntax) (valid : IsValid s) (k : Known) (ho : k.order.now ≡ s.order) (fit : length k.written.items ≡ variables s.declarations)
     (at : (x : ℕ) (d : Option Label) → x < variables s.declarations → slice_index_or k.written.items x d ≡ (cell_at s.declarations x).label) where
   abbrev b : ℕ
   b = s.order.bottom
@@ -119,7 +119,7 @@ module _ (s : Syntax) (valid : IsValid s) (k : Known) (ho : k.order ≡ s.order)
 
   same_free : (x : ℕ) → free_of k x ≡ is_free s.declarations x
   same_free x =
-      let low : Label = record { number = k.order.bottom } in
+      let low : Label = record { number = k.order.now.bottom } in
       ⊎_elim
       (λ (i : x < variables ds). ap is_none (at x (Some low) i) ∙ sym (free_at (cells ds) x nowhere i))
       (λ (i : variables ds ≤ x). ap is_none (past_get k.written.items x (Some low) (omega (arith, fit, i))) ∙ sym (past_free (cells ds) x i))
@@ -127,11 +127,11 @@ module _ (s : Syntax) (valid : IsValid s) (k : Known) (ho : k.order ≡ s.order)
 
   same_written : (x : ℕ) → written_of k x ≡ written_in s.declarations s.order.bottom x
   same_written x =
-      let low : Label = record { number = k.order.bottom } in
-      let hb : k.order.bottom ≡ s.order.bottom = ap (λ (z : Order). z.bottom) ho in
+      let low : Label = record { number = k.order.now.bottom } in
+      let hb : k.order.now.bottom ≡ s.order.bottom = ap (λ (z : Order). z.bottom) ho in
       ⊎_elim
-      (λ (i : x < variables ds). ap (λ o. label_or o k.order.bottom) (at x (Some low) i) ∙ ap (label_or (cell_at ds x).label) hb)
-      (λ (i : variables ds ≤ x). ap (λ o. label_or o k.order.bottom) (past_get k.written.items x (Some low) (omega (arith, fit, i))) ∙ hb
+      (λ (i : x < variables ds). ap (λ o. label_or o k.order.now.bottom) (at x (Some low) i) ∙ ap (label_or (cell_at ds x).label) hb)
+      (λ (i : variables ds ≤ x). ap (λ o. label_or o k.order.now.bottom) (past_get k.written.items x (Some low) (omega (arith, fit, i))) ∙ hb
       ∙ sym (past_or b (cells ds) x nowhere i refl))
       (cases_lt x (variables ds))
 
@@ -145,7 +145,7 @@ module _ (s : Syntax) (valid : IsValid s) (k : Known) (ho : k.order ≡ s.order)
 
   module _ (cs : List Condition) (ws : List Bool) (vs ls : List Label) (low : LeftSide) (hl : low ≡ fixed s.order.bottom)
       (hc : constraints_in cs ≡ constraints_from k (plan_of s) low low)
-      (hw : ws ≡ replicate (length cs) true) (hv : vs ≡ map (first_of k.order.bottom) k.written.items) (hs : ls ≡ first_levels s.order.bottom (plan_of s)) where
+      (hw : ws ≡ replicate (length cs) true) (hv : vs ≡ map (first_of k.order.now.bottom) k.written.items) (hs : ls ≡ first_levels s.order.bottom (plan_of s)) where
     abbrev W : List (Option Label)
     W = written_levels (plan_of s)
 

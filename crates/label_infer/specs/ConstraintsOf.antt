@@ -14,17 +14,17 @@ use Rattle.label_infer.specs.LeftSideOf.{left_side_of}
 use Rattle.label_infer.specs.Constraints.{LeftSide, Constraint, label_or, both, own_read, variable_form, label_form, set_constraint, end_form, constraints}
 
 abbrev pub lat_of : Known → Lattice
-lat_of k = lattice_of k.order
+lat_of k = lattice_of k.order.now
 
 -- what is written of a variable; past the end bottom
 abbrev pub written_at : Known → ℕ → Option Label
-written_at k x = let low : Label = record { number = k.order.bottom } in slice_index_or k.written.items x (Some low)
+written_at k x = let low : Label = record { number = k.order.now.bottom } in slice_index_or k.written.items x (Some low)
 
 abbrev pub free_of : Known → ℕ → Bool
 free_of k x = is_none (written_at k x)
 
 abbrev pub written_of : Known → ℕ → ℕ
-written_of k x = label_or (written_at k x) k.order.bottom
+written_of k x = label_or (written_at k x) k.order.now.bottom
 
 abbrev pub end_of : Known → Plan → LeftSide → LeftSide
 end_of k = end_form (lat_of k) (free_of k) (written_of k)

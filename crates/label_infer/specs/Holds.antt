@@ -9,7 +9,7 @@ use Rattle.label_infer.specs.Blocks.{AreBlocks}
 
 abbrev pub work_of : Inside → Work
 work_of w =
-    record { order = w.order; conditions = w.conditions.items; waits = w.waits.items; variables = w.variables; levels = w.levels.items }
+    record { order = w.order.now; conditions = w.conditions.items; waits = w.waits.items; variables = w.variables; levels = w.levels.items }
 
 -- the right side is the label of a variable or a mitigate that is there
 abbrev pub IsThere : ℕ → ℕ → Target → Type 0

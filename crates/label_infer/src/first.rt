@@ -39,8 +39,8 @@ fn first_label(written: Option<Label>, bottom: Label) -> Label
 }
 
 /// The written label of each variable, or bottom.
-pub(crate) fn first_variables(alloc: Global, k: &Known) -> Result<Variables, AllocError>
-    ensures { IfOk result (λ v. v ≡ map (first_of k.now.order.bottom) k.now.written.items) }
+pub(crate) fn first_variables(alloc: Global, k: &Known<'_>) -> Result<Variables, AllocError>
+    ensures { IfOk result (λ v. v ≡ map (first_of k.now.order.now.bottom) k.now.written.items) }
 {
     let mut found = Variables::new(alloc)?;
     for written in &k.written {

@@ -16,7 +16,7 @@ use text_base::pos::Memory;
 use timing_types::labelled::Labelled;
 
 /// Takes conditions up until none waits.
-fn settle<L: Ledger>(p: &Program, work: &mut Worklist, steps: &mut Steps<L>)
+fn settle<L: Ledger>(p: &Program, work: &mut Worklist<'_>, steps: &mut Steps<L>)
     requires work { IsWorkOf p.now work.old }
     requires within { (c : ℕ) → IsWithin work.old c 0 }
     ensures valid { IsValid p.now }

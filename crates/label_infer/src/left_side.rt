@@ -40,7 +40,7 @@ pub(crate) fn fixed(base: Label) -> LeftSide
 }
 
 /// Both joined.
-pub(crate) fn both(k: &Known, a: &LeftSide, b: &LeftSide) -> Result<LeftSide, AllocError>
+pub(crate) fn both(k: &Known<'_>, a: &LeftSide, b: &LeftSide) -> Result<LeftSide, AllocError>
     ensures { IfOk result (λ f. left_side_of f ≡ both (lat_of k.now) (left_side_of a.now) (left_side_of b.now)) }
 {
     Ok(LeftSide {

@@ -17,7 +17,7 @@ use mit_syntax::ast::Expr;
 use std::alloc::AllocError;
 
 /// What is written of a variable; past the end of the table bottom.
-pub(crate) fn written_label(x: u32, k: &Known) -> Option<Label>
+pub(crate) fn written_label(x: u32, k: &Known<'_>) -> Option<Label>
     ensures value { result ≡ written_at k.now x }
     ensures small { IfNone result (x < MAX_NUMBERS) }
 {
@@ -28,7 +28,7 @@ pub(crate) fn written_label(x: u32, k: &Known) -> Option<Label>
 }
 
 /// The label of a variable.
-fn variable(x: u32, k: &Known) -> LeftSide
+fn variable(x: u32, k: &Known<'_>) -> LeftSide
     ensures { left_side_of result ≡ variable_form (lat_of k.now) (free_of k.now) (written_of k.now) x }
 {
     match written_label(x, k) {
@@ -41,7 +41,7 @@ fn variable(x: u32, k: &Known) -> LeftSide
 }
 
 /// The join of the labels of an expression's variables and arrays, those in indices included.
-pub(crate) fn label(e: &Expr, k: &Known) -> Result<LeftSide, AllocError>
+pub(crate) fn label(e: &Expr, k: &Known<'_>) -> Result<LeftSide, AllocError>
     ensures { IfOk result (λ f. left_side_of f ≡ label_form (lat_of k.now) (free_of k.now) (written_of k.now) (expression_of e.now)) }
 {
     match e {
@@ -64,7 +64,7 @@ pub(crate) fn label(e: &Expr, k: &Known) -> Result<LeftSide, AllocError>
 }
 
 /// The read label that a command writes.
-fn own_read(written: &Option<(Label, Label)>, k: &Known) -> LeftSide
+fn own_read(written: &Option<(Label, Label)>, k: &Known<'_>) -> LeftSide
     ensures { left_side_of result ≡ own_read (lat_of k.now) written.now }
 {
     match written {
@@ -74,7 +74,7 @@ fn own_read(written: &Option<(Label, Label)>, k: &Known) -> LeftSide
 }
 
 /// The label inside a guard.
-pub(crate) fn inner(pc: &LeftSide, e: &Expr, k: &Known) -> Result<LeftSide, AllocError>
+pub(crate) fn inner(pc: &LeftSide, e: &Expr, k: &Known<'_>) -> Result<LeftSide, AllocError>
     ensures { IfOk result (λ f. left_side_of f ≡ inner_of k.now (left_side_of pc.now) (expression_of e.now)) }
 {
     let le = label(e, k)?;
@@ -85,7 +85,7 @@ pub(crate) fn inner(pc: &LeftSide, e: &Expr, k: &Known) -> Result<LeftSide, Allo
 pub(crate) fn skip_end(
     written: &Option<(Label, Label)>,
     t: &LeftSide,
-    k: &Known,
+    k: &Known<'_>,
 ) -> Result<LeftSide, AllocError>
     ensures { IfOk result (λ f. left_side_of f ≡ skip_of k.now written.now (left_side_of t.now)) }
 {
@@ -98,7 +98,7 @@ pub(crate) fn after(
     written: &Option<(Label, Label)>,
     t: &LeftSide,
     e: &Expr,
-    k: &Known,
+    k: &Known<'_>,
 ) -> Result<LeftSide, AllocError>
     ensures { IfOk result (λ f. left_side_of f ≡ after_of k.now written.now (left_side_of t.now) (expression_of e.now)) }
 {
@@ -114,7 +114,7 @@ pub(crate) fn after_set(
     t: &LeftSide,
     x: u32,
     value: &Expr,
-    k: &Known,
+    k: &Known<'_>,
 ) -> Result<LeftSide, AllocError>
     ensures { IfOk result (λ f. left_side_of f ≡ set_after k.now written.now (left_side_of t.now) x (expression_of value.now)) }
 {
@@ -130,7 +130,7 @@ pub(crate) fn after_put(
     first: u32,
     index: &Expr,
     value: &Expr,
-    k: &Known,
+    k: &Known<'_>,
 ) -> Result<LeftSide, AllocError>
     ensures { IfOk result (λ f. left_side_of f ≡ put_after k.now written.now (left_side_of t.now) first (expression_of index.now) (expression_of value.now)) }
 {
@@ -144,7 +144,7 @@ fn around(
     written: &Option<(Label, Label)>,
     pc: &LeftSide,
     t: &LeftSide,
-    k: &Known,
+    k: &Known<'_>,
 ) -> Result<LeftSide, AllocError>
     ensures { IfOk result (λ f. left_side_of f ≡ around_of k.now written.now (left_side_of pc.now) (left_side_of t.now)) }
 {
@@ -159,7 +159,7 @@ pub(crate) fn set_left(
     pc: &LeftSide,
     t: &LeftSide,
     value: &Expr,
-    k: &Known,
+    k: &Known<'_>,
 ) -> Result<LeftSide, AllocError>
     ensures { IfOk result (λ f. left_side_of f ≡ set_left k.now written.now (left_side_of pc.now) (left_side_of t.now) (expression_of value.now)) }
 {
@@ -175,7 +175,7 @@ pub(crate) fn put_left(
     t: &LeftSide,
     index: &Expr,
     value: &Expr,
-    k: &Known,
+    k: &Known<'_>,
 ) -> Result<LeftSide, AllocError>
     ensures { IfOk result (λ f. left_side_of f ≡ put_left k.now written.now (left_side_of pc.now) (left_side_of t.now) (expression_of index.now)
         (expression_of value.now)) }

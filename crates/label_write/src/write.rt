@@ -45,9 +45,9 @@ fn program_of(alloc: Global, p: &Labelled) -> Result<Program, AllocError>
     let pairs = Vec::from_slice(alloc, program.pairs())?;
     let table = write_declarations(alloc, program.declarations(), labels, order)?;
     let (_, body) = write_list(alloc, commands, labels, order, 0)?;
-    let order = Box::new(alloc, *order)?;
+    let shared = program.shared_lattice().clone()?;
     let variables = Variables::of(alloc, table)?;
-    Ok(Program::of(order, pairs, variables, body))
+    Ok(Program::of(shared, pairs, variables, body))
 }
 
 /// The canonical text of that program.

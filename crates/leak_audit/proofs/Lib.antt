@@ -10,3 +10,4 @@ pub mod OneReason
 pub mod Differing
 pub mod Reporting
 pub mod Once
+mod SameTouches

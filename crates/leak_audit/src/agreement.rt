@@ -1,6 +1,6 @@
 //! Whether the starts of a list agree for an observer.
 
-ghost use Rattle.std.specs.Prelude.{◌≡◌, ◌<◌, ◌≤◌, All, OnOk, IfErr, IfOk, MatchOption, length, map};
+ghost use Rattle.std.specs.Prelude.{◌≡◌, ◌<◌, ◌≤◌, ◌↔◌, IsTrue, All, OnOk, IfErr, IfOk, MatchOption, length, map};
 ghost use Rattle.start_file.specs.Starts.{seen, IsFor};
 ghost use Rattle.leak_bound.specs.Records.{Pairwise};
 ghost use Rattle.leak_audit.specs.Agreement.{start_of, starts_of, AgreeFor, IsDisagreement, IsFirstDifference};
@@ -10,6 +10,7 @@ use crate::difference::{first_difference, first_difference_in};
 use crate::what::What;
 use env_contract::env::MachineEnv;
 use env_contract::make::MakeEnv;
+use env_contract::place::Touch;
 use label_lattice::label::Label;
 use start_file::start::Start;
 use std::alloc::Global;
@@ -33,8 +34,15 @@ impl From<Memory> for Disagreement {
     }
 }
 
-// The first difference of a start from the first one, which has this environment. Where neither has touches,
-// theirs are the same, and no other one is made.
+// Whether these are the same touches, in the same order.
+fn are_same(one: &[Touch], other: &[Touch]) -> bool
+    ensures { IsTrue result ↔ (one.now ≡ other.now) }
+{
+    one == other
+}
+
+// The first difference of a start from the first one, which has this environment. Where both have the same touches,
+// theirs is one environment, and no other one is made.
 fn difference_from<E: MachineEnv + Drop, M: MakeEnv<E>>(
     alloc: Global,
     p: &Labelled,
@@ -57,10 +65,10 @@ fn difference_from<E: MachineEnv + Drop, M: MakeEnv<E>>(
 {
     let (one, two) = (first.memory.as_slice(), start.memory.as_slice());
     let touches = start.touches.as_slice();
-    if touches.is_empty() && first.touches.as_slice().is_empty() {
+    if are_same(touches, first.touches.as_slice()) {
         return Ok(first_difference_in(p, observer, one, two, env));
     }
-    let other = make.make(alloc, p.program().lattice(), touches)?;
+    let other = make.make(alloc, p.program().shared_lattice(), touches)?;
     Ok(first_difference(p, observer, one, env, two, &other))
 }
 
@@ -89,7 +97,7 @@ pub fn all_agree<E: MachineEnv + Drop, M: MakeEnv<E>>(
     let Some(first) = starts.first() else {
         return Ok(());
     };
-    let lattice = p.program().lattice();
+    let lattice = p.program().shared_lattice();
     let env = make.make(alloc, lattice, first.touches.as_slice())?;
     for (i, start) in starts.iter().enumerate() {
         let found = difference_from(alloc, p, observer, first, &env, start, make)?;

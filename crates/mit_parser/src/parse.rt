@@ -17,24 +17,25 @@ use mit_syntax::declarations::Variables;
 use mit_syntax::program::Program;
 use mit_syntax::token::Token;
 use std::alloc::{AllocError, Global};
+use std::rc::Rc;
 
-// The lattice of a header in a box. Its copy stands on the stack only here.
+// The lattice of a header, to be shared. Its copy stands on the stack only here.
 #[inline(never)]
-fn boxed(alloc: Global, lattice: &Option<Lattice>) -> Result<Box<Lattice>, AllocError>
+fn shared(alloc: Global, lattice: &Option<Lattice>) -> Result<Rc<Lattice>, AllocError>
     requires { lattice.now ≢ None }
-    ensures same { IfOk result (λ b. lattice.now ≡ Some b.value) }
-    ensures order { IfOk result (λ b. IsOrder b.value) }
+    ensures same { IfOk result (λ r. lattice.now ≡ Some r.value) }
+    ensures order { IfOk result (λ r. IsOrder r.value) }
 {
     let Some(lattice) = lattice else {
         unreachable!()
     };
     lattice.laws();
-    Ok(Box::new(alloc, *lattice)?)
+    Ok(Rc::new(alloc, *lattice)?)
 }
 
 // The program of these parts.
 fn assembled(
-    lattice: Box<Lattice>,
+    lattice: Rc<Lattice>,
     pairs: Vec<(Label, Label)>,
     variables: Variables,
     body: Vec<Command>,
@@ -78,7 +79,7 @@ pub fn parse(alloc: Global, tokens: &[Token], text: &[u8]) -> Result<Program, Pa
     }
     match parser.fault() {
         Some(fault) => Err(fault),
-        None => match boxed(alloc, &names.lattice) {
+        None => match shared(alloc, &names.lattice) {
             Ok(lattice) => Ok(assembled(lattice, header.pairs, names.variables, body)),
             Err(_) => Err(ParseFault::Memory),
         },

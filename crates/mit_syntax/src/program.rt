@@ -13,11 +13,12 @@ use label_lattice::label::Label;
 use label_lattice::lattice::Lattice;
 use label_lattice::name::Name;
 use std::marker::Model;
+use std::rc::Rc;
 
 /// A program: its labels, the pairs that give their order, its variables and its commands.
 #[derive(Drop)]
 pub struct Program {
-    lattice: Box<Lattice>,
+    lattice: Rc<Lattice>,
     pairs: Vec<(Label, Label)>,
     variables: Variables,
     body: Vec<Command>,
@@ -44,7 +45,7 @@ impl Model for Program {
 impl Program {
     /// A program of these parts, which are those of a program: takes no memory.
     pub fn of(
-        lattice: Box<Lattice>,
+        lattice: Rc<Lattice>,
         pairs: Vec<(Label, Label)>,
         variables: Variables,
         body: Vec<Command>,
@@ -77,6 +78,13 @@ impl Program {
     /// The labels and their order.
     pub fn lattice(&self) -> &Lattice
         ensures { result.now ≡ self.now.order }
+    {
+        &self.lattice
+    }
+
+    /// The same, to be shared.
+    pub fn shared_lattice(&self) -> &Rc<Lattice>
+        ensures { result.now.value ≡ self.now.order }
     {
         &self.lattice
     }

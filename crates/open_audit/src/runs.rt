@@ -110,7 +110,7 @@ fn observe_start<E: MachineEnv + Drop, M: MakeEnv<E>, W: Watch>(
     ensures { IfOk result (ObservesRun E.env p.now observer.now.label.number observer.now.relevant.now observer.now.room limit
         (start_of (M.made make.now) p.now.program.order (seen start.now))) }
 {
-    let env = make.make(alloc, image.lattice(), start.touches.as_slice())?;
+    let env = make.make(alloc, image.shared_lattice(), start.touches.as_slice())?;
     let memory = start.memory.clone()?;
     let mut machine = Machine::load(alloc, image, memory, env)?;
     let seen = observe(alloc, &mut machine, p, observer, limit, watch)?;

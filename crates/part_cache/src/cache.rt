@@ -47,22 +47,8 @@ fn set_of(tag: u32, sets: u32) -> u32
 }
 
 impl PartCache {
-    /// An empty cache of 1 to 64 sets with 1 to 8 ways for each label. Fails only for want of memory.
-    pub fn new(alloc: Global, lattice: &Lattice, sets: u32, ways: u32) -> Result<PartCache, Memory>
-        requires some_set { 0 < sets }
-        requires few_sets { sets ≤ 64 }
-        requires some_way { 0 < ways }
-        requires few_ways { ways ≤ 8 }
-        ensures value { IfOk result (λ c. c ≡ empty_cache lattice.now sets ways) }
-        ensures cache { IfOk result (IsCacheOf lattice.now sets ways) }
-        ensures history { IfOk result (λ c. StandsFor c []) }
-    {
-        let lattice = Rc::new(alloc, *lattice)?;
-        PartCache::of_shared(alloc, &lattice, sets, ways)
-    }
-
-    /// The same of a lattice that several caches share. Fails only for want of memory.
-    pub fn of_shared(
+    /// An empty cache of 1 to 64 sets with 1 to 8 ways for each label, which shares the lattice. Fails only for want of memory.
+    pub fn new(
         alloc: Global,
         lattice: &Rc<Lattice>,
         sets: u32,

@@ -1,9 +1,11 @@
 use crate::cache::PartCache;
 use sample_lattice::{HIGH, LOW, two_labels};
+use std::rc::Rc;
 
 #[test]
 fn keeps_the_latest_of_a_set(rt: HostRuntime) {
     let lattice = two_labels().expect(&rt, "a lattice");
+    let lattice = Rc::new(rt.alloc(), lattice).expect(&rt, "memory");
     let mut cache = PartCache::new(rt.alloc(), &lattice, 1, 2).expect(&rt, "memory");
     cache.touch(1, LOW);
     cache.touch(2, LOW);
@@ -17,6 +19,7 @@ fn keeps_the_latest_of_a_set(rt: HostRuntime) {
 #[test]
 fn looks_at_and_below_a_label(rt: HostRuntime) {
     let lattice = two_labels().expect(&rt, "a lattice");
+    let lattice = Rc::new(rt.alloc(), lattice).expect(&rt, "memory");
     let mut cache = PartCache::new(rt.alloc(), &lattice, 8, 2).expect(&rt, "memory");
     cache.touch(0, LOW);
     cache.touch(8, HIGH);

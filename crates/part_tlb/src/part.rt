@@ -43,32 +43,17 @@ pub struct PartEnv {
 }
 
 impl PartEnv {
-    /// The environment of a lattice in which the touches were made, the earliest first. Those of the
+    /// The environment of a lattice, which its caches share, in which the touches were made, the earliest first. Those of the
     /// second level change nothing. Fails only for want of memory.
-    pub fn warm(alloc: Global, lattice: &Lattice, touches: &[Touch]) -> Result<PartEnv, Memory>
-        requires { All (λ t. t.label.number < lattice.now.size) touches.now }
-        ensures value { IfOk result (λ e. e ≡ warmed part_touched (empty_part lattice.now) touches.now) }
-        ensures serves { IfOk result (IsMadeFor part_structure lattice.now) }
-        ensures history { IfOk result (λ e. StandsForAll part_structure e touches.now) }
-    {
-        let shared = Rc::new(alloc, *lattice)?;
-        PartEnv::warm_shared(alloc, &shared, touches)
-    }
-
-    // The same of a lattice that its caches share with others.
-    pub(crate) fn warm_shared(
-        alloc: Global,
-        lattice: &Rc<Lattice>,
-        touches: &[Touch],
-    ) -> Result<PartEnv, Memory>
+    pub fn warm(alloc: Global, lattice: &Rc<Lattice>, touches: &[Touch]) -> Result<PartEnv, Memory>
         requires { All (λ t. t.label.number < lattice.now.value.size) touches.now }
         ensures value { IfOk result (λ e. e ≡ warmed part_touched (empty_part lattice.now.value) touches.now) }
         ensures serves { IfOk result (IsMadeFor part_structure lattice.now.value) }
         ensures history { IfOk result (λ e. StandsForAll part_structure e touches.now) }
     {
-        let buffer = PartCache::of_shared(alloc, lattice, BUFFER_SETS, BUFFER_WAYS)?;
-        let code_cache = PartCache::of_shared(alloc, lattice, SETS, WAYS)?;
-        let data_cache = PartCache::of_shared(alloc, lattice, SETS, WAYS)?;
+        let buffer = PartCache::new(alloc, lattice, BUFFER_SETS, BUFFER_WAYS)?;
+        let code_cache = PartCache::new(alloc, lattice, SETS, WAYS)?;
+        let data_cache = PartCache::new(alloc, lattice, SETS, WAYS)?;
         let mut env = PartEnv {
             buffer,
             code_cache,
@@ -184,10 +169,15 @@ impl MakeEnv<PartEnv> for MakePart {
 
     ghost made = { λ maker order touches. warmed part_touched (empty_part order) touches };
 
-    fn make(&self, alloc: Global, lattice: &Lattice, touches: &[Touch]) -> Result<PartEnv, Memory>
-        requires { All (λ t. t.label.number < lattice.now.size) touches.now }
-        ensures value { IfOk result (λ e. e ≡ warmed part_touched (empty_part lattice.now) touches.now) }
-        ensures serves { IfOk result (IsMadeFor part_structure lattice.now) }
+    fn make(
+        &self,
+        alloc: Global,
+        lattice: &Rc<Lattice>,
+        touches: &[Touch],
+    ) -> Result<PartEnv, Memory>
+        requires { All (λ t. t.label.number < lattice.now.value.size) touches.now }
+        ensures value { IfOk result (λ e. e ≡ warmed part_touched (empty_part lattice.now.value) touches.now) }
+        ensures serves { IfOk result (IsMadeFor part_structure lattice.now.value) }
         ensures history { IfOk result (λ e. StandsForAll part_structure e touches.now) }
     {
         PartEnv::warm(alloc, lattice, touches)

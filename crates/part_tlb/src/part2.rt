@@ -36,31 +36,16 @@ pub struct Part2Env {
 }
 
 impl Part2Env {
-    /// The environment of a lattice in which the touches were made, the earliest first. Fails only for
+    /// The environment of a lattice, which its caches share, in which the touches were made, the earliest first. Fails only for
     /// want of memory.
-    pub fn warm(alloc: Global, lattice: &Lattice, touches: &[Touch]) -> Result<Part2Env, Memory>
-        requires { All (λ t. t.label.number < lattice.now.size) touches.now }
-        ensures value { IfOk result (λ e. e ≡ warmed part2_touched (empty_part2 lattice.now) touches.now) }
-        ensures serves { IfOk result (IsMadeFor part2_structure lattice.now) }
-        ensures history { IfOk result (λ e. StandsForAll part2_structure e touches.now) }
-    {
-        let shared = Rc::new(alloc, *lattice)?;
-        Part2Env::warm_shared(alloc, &shared, touches)
-    }
-
-    // The same of a lattice that its caches share.
-    fn warm_shared(
-        alloc: Global,
-        lattice: &Rc<Lattice>,
-        touches: &[Touch],
-    ) -> Result<Part2Env, Memory>
+    pub fn warm(alloc: Global, lattice: &Rc<Lattice>, touches: &[Touch]) -> Result<Part2Env, Memory>
         requires { All (λ t. t.label.number < lattice.now.value.size) touches.now }
         ensures value { IfOk result (λ e. e ≡ warmed part2_touched (empty_part2 lattice.now.value) touches.now) }
         ensures serves { IfOk result (IsMadeFor part2_structure lattice.now.value) }
         ensures history { IfOk result (λ e. StandsForAll part2_structure e touches.now) }
     {
-        let first = PartEnv::warm_shared(alloc, lattice, &[])?;
-        let second = PartCache::of_shared(alloc, lattice, SETS, WAYS)?;
+        let first = PartEnv::warm(alloc, lattice, &[])?;
+        let second = PartCache::new(alloc, lattice, SETS, WAYS)?;
         let mut env = Part2Env { first, second };
         for touch in touches {
             env.touch(touch.place, tag_at(touch.place, touch.address), touch.label);
@@ -137,10 +122,15 @@ impl MakeEnv<Part2Env> for MakePart2 {
 
     ghost made = { λ maker order touches. warmed part2_touched (empty_part2 order) touches };
 
-    fn make(&self, alloc: Global, lattice: &Lattice, touches: &[Touch]) -> Result<Part2Env, Memory>
-        requires { All (λ t. t.label.number < lattice.now.size) touches.now }
-        ensures value { IfOk result (λ e. e ≡ warmed part2_touched (empty_part2 lattice.now) touches.now) }
-        ensures serves { IfOk result (IsMadeFor part2_structure lattice.now) }
+    fn make(
+        &self,
+        alloc: Global,
+        lattice: &Rc<Lattice>,
+        touches: &[Touch],
+    ) -> Result<Part2Env, Memory>
+        requires { All (λ t. t.label.number < lattice.now.value.size) touches.now }
+        ensures value { IfOk result (λ e. e ≡ warmed part2_touched (empty_part2 lattice.now.value) touches.now) }
+        ensures serves { IfOk result (IsMadeFor part2_structure lattice.now.value) }
         ensures history { IfOk result (λ e. StandsForAll part2_structure e touches.now) }
     {
         Part2Env::warm(alloc, lattice, touches)

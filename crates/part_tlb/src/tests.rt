@@ -10,16 +10,17 @@ use env_contract::place::{Kind, PLACES, Place, Touch};
 use label_lattice::lattice::Lattice;
 use sample_lattice::{HIGH, LOW, two_labels};
 use std::alloc::Global;
+use std::rc::Rc;
 use text_base::pos::Memory;
 
 fn make<E: MachineEnv, M: MakeEnv<E>>(
     maker: &M,
     alloc: Global,
-    lattice: &Lattice,
+    lattice: &Rc<Lattice>,
     touches: &[Touch],
 ) -> Result<E, Memory>
-    requires { All (λ t. t.label.number < lattice.now.size) touches.now }
-    ensures { IfOk result (E.serves lattice.now) }
+    requires { All (λ t. t.label.number < lattice.now.value.size) touches.now }
+    ensures { IfOk result (E.serves lattice.now.value) }
 {
     maker.make(alloc, lattice, touches)
 }
@@ -60,6 +61,7 @@ fn first_wrong<E: MachineEnv>(env: &mut E, two_levels: bool) -> Option<usize>
 #[test]
 fn costs_one_level(rt: HostRuntime) {
     let lattice = two_labels().expect(&rt, "a lattice");
+    let lattice = Rc::new(rt.alloc(), lattice).expect(&rt, "memory");
     let mut env = make(&MakePart, rt.alloc(), &lattice, &[]).expect(&rt, "memory");
     assert_eq!(rt; first_wrong(&mut env, false), None);
 }
@@ -67,6 +69,7 @@ fn costs_one_level(rt: HostRuntime) {
 #[test]
 fn costs_two_levels(rt: HostRuntime) {
     let lattice = two_labels().expect(&rt, "a lattice");
+    let lattice = Rc::new(rt.alloc(), lattice).expect(&rt, "memory");
     let mut env = make(&MakePart2, rt.alloc(), &lattice, &[]).expect(&rt, "memory");
     assert_eq!(rt; first_wrong(&mut env, true), None);
 }
@@ -81,6 +84,7 @@ const FAR: Touch = Touch {
 #[test]
 fn uses_touches_of_the_second_level_with_two(rt: HostRuntime) {
     let lattice = two_labels().expect(&rt, "a lattice");
+    let lattice = Rc::new(rt.alloc(), lattice).expect(&rt, "memory");
     let mut one = PartEnv::warm(rt.alloc(), &lattice, &[FAR]).expect(&rt, "memory");
     assert_eq!(rt; one.access(Kind::Code, 0, LOW, LOW), 28);
     let mut two = Part2Env::warm(rt.alloc(), &lattice, &[FAR]).expect(&rt, "memory");
@@ -104,6 +108,7 @@ const WARM: [Touch; 2] = [
 #[test]
 fn compares_parts(rt: HostRuntime) {
     let lattice = two_labels().expect(&rt, "a lattice");
+    let lattice = Rc::new(rt.alloc(), lattice).expect(&rt, "memory");
     let one = PartEnv::warm(rt.alloc(), &lattice, &WARM).expect(&rt, "memory");
     let other = PartEnv::warm(rt.alloc(), &lattice, &WARM[..1]).expect(&rt, "memory");
     for place in PLACES {

@@ -61,7 +61,7 @@ pub fn space_agrees<E: MachineEnv + Drop, M: MakeEnv<E>>(
     if let Some(x) = first_ranging(p, observer, space.memory.as_slice()) {
         return Ok(Some(x));
     }
-    let lattice = p.program().lattice();
+    let lattice = p.program().shared_lattice();
     let _made = make.make(alloc, lattice, space.touches.as_slice())?;
     Ok(None)
 }

@@ -51,7 +51,7 @@ fn observe_at<E: MachineEnv + Drop, M: MakeEnv<E>, W: Watch>(
         (start_of (M.made make.now) p.now.program.order (start_at (seen space.now) number))) }
     ensures fault { IfErr result (λ e. e ≡ fault.Memory) }
 {
-    let env = make.make(alloc, image.lattice(), space.touches.as_slice())?;
+    let env = make.make(alloc, image.shared_lattice(), space.touches.as_slice())?;
     let memory = chooser.memory(alloc, space, number)?;
     let mut machine = Machine::load(alloc, image, memory, env)?;
     let seen = observe(alloc, &mut machine, p, observer, limit, watch)?;

@@ -30,7 +30,7 @@ fn run_of<E: MachineEnv + Drop, M: MakeEnv<E>>(
     ensures run { IfOk result (λ es. IsRun E.env (M.made maker.now) limit image.now (seen from.now) (entries_of es.items)) }
     ensures fault { IfErr result (λ e. e ≡ fault.Unfinished → IsUnending E.env (M.made maker.now) limit image.now (seen from.now)) }
 {
-    let env = maker.make(alloc, image.lattice(), from.touches.as_slice())?;
+    let env = maker.make(alloc, image.shared_lattice(), from.touches.as_slice())?;
     let memory = from.memory.clone()?;
     match entries(alloc, image, memory, env, limit) {
         Ok(found) => Ok(found),

@@ -60,7 +60,7 @@ fn run_in<E: MachineEnv + Drop, M: MakeEnv<E>, W: Sink>(
     } = program;
     let source = typed.labelled().program();
     source.laws();
-    let lattice = source.lattice();
+    let lattice = source.shared_lattice();
     let Ok(env) = maker.make(alloc, lattice, start.touches.as_slice()) else {
         return stop_for_memory(out);
     };

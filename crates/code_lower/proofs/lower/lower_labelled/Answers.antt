@@ -58,14 +58,14 @@ of-requires c =
     let hp = c.program-program.ensures.program in
     let ho = c.lattice-order.ensures ∙ ap (λ z. z.order) hp in
     let hb = c.body.ensures.body ∙ ap (λ z. z.plan) hp in
-    let hx = c.in-Ok.ensures.ok ∙ ho in
+    let hx = c.in_ok-lattice.ensures.cases ∙ c.shared_lattice.ensures ∙ ap (λ z. z.order) hp in
     let is =
     emitted_is p c.lattice-order.result.now c.labels.result.now c.body-2.result.now c.in_ok-code.code.items c.emit_list.new.code.items
     c.put.new.code.items c.bottom-bottom.result
     ho (c.labels.ensures) (c.body-2.ensures.body ∙ ap (λ z. z.plan) hp) c.bottom-bottom.ensures.value c.in_ok-code.ensures.items
     c.in_ok-emit_list.ensures.code c.in_ok-put.ensures in
     let hv = c.variables-variables.ensures.value ∙ ap (λ z. variables z.declarations) hp in
-    let built = built_is p c.put.new.code.items c.variables-variables.result c.in-Ok.lattice.value c.list_extent-extent.result c.body.result.now is hv hx hb
+    let built = built_is p c.put.new.code.items c.variables-variables.result c.in_ok-lattice.lattice.value c.list_extent-extent.result c.body.result.now is hv hx hb
     c.list_extent-extent.ensures in
     let s = ap (λ z. size z) hb in
     let x = c.list_extent-extent.ensures.size in
@@ -81,14 +81,14 @@ returns-clause-image c =
     let hp = c.program-program.ensures.program in
     let ho = c.lattice-order.ensures ∙ ap (λ z. z.order) hp in
     let hb = c.body.ensures.body ∙ ap (λ z. z.plan) hp in
-    let hx = c.in-Ok.ensures.ok ∙ ho in
+    let hx = c.in_ok-lattice.ensures.cases ∙ c.shared_lattice.ensures ∙ ap (λ z. z.order) hp in
     let is =
     emitted_is p c.lattice-order.result.now c.labels.result.now c.body-2.result.now c.in_ok-code.code.items c.emit_list.new.code.items
     c.put.new.code.items c.bottom-bottom.result
     ho (c.labels.ensures) (c.body-2.ensures.body ∙ ap (λ z. z.plan) hp) c.bottom-bottom.ensures.value c.in_ok-code.ensures.items
     c.in_ok-emit_list.ensures.code c.in_ok-put.ensures in
     let hv = c.variables-variables.ensures.value ∙ ap (λ z. variables z.declarations) hp in
-    let built = built_is p c.put.new.code.items c.variables-variables.result c.in-Ok.lattice.value c.list_extent-extent.result c.body.result.now is hv hx hb
+    let built = built_is p c.put.new.code.items c.variables-variables.result c.in_ok-lattice.lattice.value c.list_extent-extent.result c.body.result.now is hv hx hb
     c.list_extent-extent.ensures in
     c.of.ensures ∙ built
 
@@ -98,13 +98,13 @@ returns-clause-stands c =
     let hp = c.program-program.ensures.program in
     let ho = c.lattice-order.ensures ∙ ap (λ z. z.order) hp in
     let hb = c.body.ensures.body ∙ ap (λ z. z.plan) hp in
-    let hx = c.in-Ok.ensures.ok ∙ ho in
+    let hx = c.in_ok-lattice.ensures.cases ∙ c.shared_lattice.ensures ∙ ap (λ z. z.order) hp in
     let is =
     emitted_is p c.lattice-order.result.now c.labels.result.now c.body-2.result.now c.in_ok-code.code.items c.emit_list.new.code.items
     c.put.new.code.items c.bottom-bottom.result
     ho (c.labels.ensures) (c.body-2.ensures.body ∙ ap (λ z. z.plan) hp) c.bottom-bottom.ensures.value c.in_ok-code.ensures.items
     c.in_ok-emit_list.ensures.code c.in_ok-put.ensures in
     let hv = c.variables-variables.ensures.value ∙ ap (λ z. variables z.declarations) hp in
-    let built = built_is p c.put.new.code.items c.variables-variables.result c.in-Ok.lattice.value c.list_extent-extent.result c.body.result.now is hv hx hb
+    let built = built_is p c.put.new.code.items c.variables-variables.result c.in_ok-lattice.lattice.value c.list_extent-extent.result c.body.result.now is hv hx hb
     c.list_extent-extent.ensures in
     subst (λ (z : Code). IsImage (order_of p) (labels_of p) z.instrs (bare_of p)) (sym (c.of.ensures ∙ built)) (image_is (order_of p) (labels_of p) (bare_of p))

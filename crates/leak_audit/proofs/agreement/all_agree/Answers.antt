@@ -36,8 +36,8 @@ make-requires g c =
     let first = c.in-Some.first.now in
     let some = has_first c.args.starts.now first (sym c.in-Some.ensures.value) in
     let first_is = sym (get_or_from_slice_get c.args.starts.now 0 first first (sym c.in-Some.ensures.value)) in
-    let order = c.lattice-lattice.ensures ∙ ap (λ z. z.order) c.program.ensures.program in
-    touches_below p.program c.lattice-lattice.result.now first c.as_slice.result.now
+    let order = c.shared_lattice-lattice.ensures ∙ ap (λ z. z.order) c.program.ensures.program in
+    touches_below p.program c.shared_lattice-lattice.result.now.value first c.as_slice.result.now
     (All-seen (IsFor p.program) c.args.starts.now 0 first c.requires.starts some first_is) order c.as_slice.ensures.value
 
 pub returns-clause-agree : goal.returns-clause-agree

@@ -58,8 +58,8 @@ returns-in-Some c =
     c.header.new.self c.variables.new.self c.commands.new.self
     h c.in_ok-variables.ensures c.in_ok-body.ensures c.if-not-is_at_end.ensures c.laws.ensures.low c.in-Some.fault (sym c.fault.ensures ∙ c.in-Some.is)
 
-pub boxed-requires : goal.boxed-requires
-boxed-requires c =
+pub shared-requires : goal.shared-requires
+shared-requires c =
     let words = told c.args.text.now c.args.tokens.now in
     let sound = are_sound c.args.text.now c.args.tokens.now c.requires.size c.requires.tokens in
     let size = told_length c.args.text.now c.args.tokens.now in
@@ -81,13 +81,13 @@ assembled-requires-clause-parts c =
     let short : length words ≤ 2 ^ 31 = omega (arith, size, few) in
     let h : IsHeader c.in-Ok.header.lattice c.in-Ok.header.pairs.items (begin words) c.header.new.self =
     rw c.new-parser.ensures at c.in-Ok.ensures in
-    subst (λ l. AreParts l c.in-Ok.header.pairs.items c.in_ok-variables.variables c.in_ok-body.body.items) c.in-Ok-boxed.ensures.same
+    subst (λ l. AreParts l c.in-Ok.header.pairs.items c.in_ok-variables.variables c.in_ok-body.body.items) c.in-Ok-shared.ensures.same
     (parts words c.in-Ok.header.lattice c.in-Ok.header.pairs.items c.in_ok-variables.variables c.in_ok-body.body.items c.header.new.self
     c.variables.new.self c.commands.new.self
     h c.in_ok-variables.ensures c.in_ok-body.ensures c.if-not-is_at_end.ensures c.laws.ensures.low (sym c.fault.ensures ∙ c.in-None.is) sound.proper short)
 
-pub returns-in-Ok-boxed : goal.returns-in-Ok-boxed
-returns-in-Ok-boxed c =
+pub returns-in-Ok-shared : goal.returns-in-Ok-shared
+returns-in-Ok-shared c =
     let words = told c.args.text.now c.args.tokens.now in
     let h : IsHeader c.in-Ok.header.lattice c.in-Ok.header.pairs.items (begin words) c.header.new.self =
     rw c.new-parser.ensures at c.in-Ok.ensures in
@@ -96,4 +96,4 @@ returns-in-Ok-boxed c =
     h c.in_ok-variables.ensures c.in_ok-body.ensures c.if-not-is_at_end.ensures c.laws.ensures.low (sym c.fault.ensures ∙ c.in-None.is)
     c.assembled.result
     (subst (λ l. IsAssembled l c.in-Ok.header.pairs.items c.in_ok-variables.variables c.in_ok-body.body.items c.assembled.result)
-    (sym c.in-Ok-boxed.ensures.same) c.assembled.ensures)
+    (sym c.in-Ok-shared.ensures.same) c.assembled.ensures)

@@ -15,7 +15,7 @@ returns g c =
     let at : Start g.row.E.Denot = record { memory = c.in_ok-memory.memory.items; env = c.in_ok-env.env } in
     let memory : c.in_ok-memory.memory.items ≡ c.args.start.now.memory.items =
     each_same c.args.start.now.memory.items c.in_ok-memory.memory.items c.in_ok-memory.ensures.cases.0 in
-    let lattice : c.lattice.result.now ≡ c.args.p.now.program.order = c.lattice.ensures ∙ ap (λ i. i.order) c.requires.image in
+    let lattice : c.shared_lattice.result.now.value ≡ c.args.p.now.program.order = c.shared_lattice.ensures ∙ ap (λ i. i.order) c.requires.image in
     let env : c.in_ok-env.env ≡ g.M.MakeEnv.made c.args.make.now c.args.p.now.program.order c.args.start.now.touches.items =
     c.in_ok-env.ensures.value ∙ (ap (λ z. g.M.MakeEnv.made c.args.make.now z c.as_slice.result.now) lattice
     ∙ ap (g.M.MakeEnv.made c.args.make.now c.args.p.now.program.order) c.as_slice.ensures.value) in

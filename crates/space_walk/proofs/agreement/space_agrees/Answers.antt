@@ -9,7 +9,7 @@ returns g c =
     let p = c.args.p.now in
     let o = c.args.observer.number in
     let touches = c.args.space.now.touches.items in
-    let lattice : c.lattice-lattice.result.now ≡ p.program.order = search rules in
+    let lattice : c.shared_lattice-lattice.result.now.value ≡ p.program.order = search rules in
     let env : c.in_ok-_made._made ≡ (g.M.MakeEnv.made c.args.make.now) p.program.order touches =
     c.in_ok-_made.ensures.value ∙ (ap (λ z. (g.M.MakeEnv.made c.args.make.now) z c.as_slice-2.result.now) lattice
     ∙ ap ((g.M.MakeEnv.made c.args.make.now) p.program.order) c.as_slice-2.ensures.value) in

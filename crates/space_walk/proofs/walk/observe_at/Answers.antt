@@ -22,7 +22,7 @@ returns-clause-observes g c =
     let s : Start g.row.E.Denot = start_of (g.M.MakeEnv.made c.args.make.now) c.args.p.now.program.order (start_at (seen c.args.space.now) c.args.number) in
     let at : Start g.row.E.Denot = record { memory = c.in_ok-memory.memory.items; env = c.in_ok-env.env } in
     let memory : c.in_ok-memory.memory.items ≡ (start_at (seen c.args.space.now) c.args.number).memory = c.in_ok-memory.ensures.memory in
-    let lattice : c.lattice.result.now ≡ c.args.p.now.program.order = c.lattice.ensures ∙ ap (λ i. i.order) c.requires.image in
+    let lattice : c.shared_lattice.result.now.value ≡ c.args.p.now.program.order = c.shared_lattice.ensures ∙ ap (λ i. i.order) c.requires.image in
     let env : c.in_ok-env.env ≡ (g.M.MakeEnv.made c.args.make.now) c.args.p.now.program.order c.args.space.now.touches.items =
     c.in_ok-env.ensures.value ∙ (ap (λ z. (g.M.MakeEnv.made c.args.make.now) z c.as_slice.result.now) lattice
     ∙ ap ((g.M.MakeEnv.made c.args.make.now) c.args.p.now.program.order) c.as_slice.ensures.value) in

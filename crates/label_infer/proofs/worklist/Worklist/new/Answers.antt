@@ -17,12 +17,12 @@ use Rattle.label_infer.proofs.worklist.Worklist.new.Goals as goal
 pub returns-clause-work : goal.returns-clause-work
 returns-clause-work c =
     let s = c.args.p.now in
-    let o = c.lattice.result.now in
-    let ho = c.lattice.ensures in
+    let o = c.lattice-order.result.now in
+    let ho = c.lattice-order.ensures in
     let w = c.in_ok-written_labels.field-0 in
     let few = c.in_ok-written_labels.ensures.few in
     let wl = w.ok.0 in
-    let k : Known = record { alloc = c.args.alloc; order = o; written = w; small = omega (arith, few, wl) } in
+    let k : Known = record { alloc = c.args.alloc; order = c.lattice-order.result; written = w; small = omega (arith, few, wl) } in
     let low = left_side_of c.fixed-low.result in
     let hl = c.fixed-low.ensures ∙ ap fixed (c.bottom.ensures.value ∙ ap (λ (z : Order). z.bottom) ho) in
     let hc = c.in_ok-list_constraints.ensures.constraints ∙ ap (λ z. constraints_in z ++ constraints_from k (list_plan c.body.result.now) low low)
@@ -42,12 +42,12 @@ returns-clause-work c =
 pub returns-clause-first : goal.returns-clause-first
 returns-clause-first c =
     let s = c.args.p.now in
-    let o = c.lattice.result.now in
-    let ho = c.lattice.ensures in
+    let o = c.lattice-order.result.now in
+    let ho = c.lattice-order.ensures in
     let w = c.in_ok-written_labels.field-0 in
     let few = c.in_ok-written_labels.ensures.few in
     let wl = w.ok.0 in
-    let k : Known = record { alloc = c.args.alloc; order = o; written = w; small = omega (arith, few, wl) } in
+    let k : Known = record { alloc = c.args.alloc; order = c.lattice-order.result; written = w; small = omega (arith, few, wl) } in
     let low = left_side_of c.fixed-low.result in
     let hl = c.fixed-low.ensures ∙ ap fixed (c.bottom.ensures.value ∙ ap (λ (z : Order). z.bottom) ho) in
     let hc = c.in_ok-list_constraints.ensures.constraints ∙ ap (λ z. constraints_in z ++ constraints_from k (list_plan c.body.result.now) low low)
@@ -67,12 +67,12 @@ returns-clause-first c =
 pub returns-clause-steps : goal.returns-clause-steps
 returns-clause-steps c =
     let s = c.args.p.now in
-    let o = c.lattice.result.now in
-    let ho = c.lattice.ensures in
+    let o = c.lattice-order.result.now in
+    let ho = c.lattice-order.ensures in
     let w = c.in_ok-written_labels.field-0 in
     let few = c.in_ok-written_labels.ensures.few in
     let wl = w.ok.0 in
-    let k : Known = record { alloc = c.args.alloc; order = o; written = w; small = omega (arith, few, wl) } in
+    let k : Known = record { alloc = c.args.alloc; order = c.lattice-order.result; written = w; small = omega (arith, few, wl) } in
     let low = left_side_of c.fixed-low.result in
     let hl = c.fixed-low.ensures ∙ ap fixed (c.bottom.ensures.value ∙ ap (λ (z : Order). z.bottom) ho) in
     let hc = c.in_ok-list_constraints.ensures.constraints ∙ ap (λ z. constraints_in z ++ constraints_from k (list_plan c.body.result.now) low low)
@@ -92,12 +92,12 @@ returns-clause-steps c =
 pub invariant_of-result : goal.invariant_of-result
 invariant_of-result c =
     let s = c.args.p.now in
-    let o = c.lattice.result.now in
-    let ho = c.lattice.ensures in
+    let o = c.lattice-order.result.now in
+    let ho = c.lattice-order.ensures in
     let w = c.in_ok-written_labels.field-0 in
     let few = c.in_ok-written_labels.ensures.few in
     let wl = w.ok.0 in
-    let k : Known = record { alloc = c.args.alloc; order = o; written = w; small = omega (arith, few, wl) } in
+    let k : Known = record { alloc = c.args.alloc; order = c.lattice-order.result; written = w; small = omega (arith, few, wl) } in
     let low = left_side_of c.fixed-low.result in
     let hl = c.fixed-low.ensures ∙ ap fixed (c.bottom.ensures.value ∙ ap (λ (z : Order). z.bottom) ho) in
     let hc = c.in_ok-list_constraints.ensures.constraints ∙ ap (λ z. constraints_in z ++ constraints_from k (list_plan c.body.result.now) low low)

@@ -22,7 +22,7 @@ invariant_of-self g c =
     let v = c.self.inside in
     let i = c.in-Some.i in
     let x = c.in-Variable.x in
-    let t = (lattice_of v.order).flows c.value-have.result.number (label_at v.order.bottom v.variables x) in
+    let t = (lattice_of v.order.now).flows c.value-have.result.number (label_at v.order.now.bottom v.variables x) in
     let lw : length c.raise.new.waits ≡ v.waits.len =
     waits_length t x c.deref-in-Variable.result.now c.deref_mut.result.now c.raise.new.waits c.raise.ensures.waits ∙ c.deref_mut.ensures.len in
     let items = with_items_is (with_item v.waits i false) c.raise.new.waits lw in
@@ -69,7 +69,7 @@ returns-in-Variable-clause-taken g c =
     let x = c.in-Variable.x in
     let have = c.value-have.result.number in
     let V = v.variables in
-    let t = (lattice_of v.order).flows have (label_at v.order.bottom V x) in
+    let t = (lattice_of v.order.now).flows have (label_at v.order.now.bottom V x) in
     let lw : length c.raise.new.waits ≡ v.waits.len =
     waits_length t x c.deref-in-Variable.result.now c.deref_mut.result.now c.raise.new.waits c.raise.ensures.waits ∙ c.deref_mut.ensures.len in
     let W = (with_items (with_item v.waits i false) c.raise.new.waits).items in
@@ -79,8 +79,8 @@ returns-in-Variable-clause-taken g c =
     λ _. (
       i,
       c.condition_at-condition.result.now,
-      subst (λ z. Takes z (work v.order v.conditions.items W U v.levels.items) i c.condition_at-condition.result.now) c.self.view_is
-          (took_variable v.order v.conditions.items v.waits.items v.variables v.levels.items i c.condition_at-condition.result.now have
+      subst (λ z. Takes z (work v.order.now v.conditions.items W U v.levels.items) i c.condition_at-condition.result.now) c.self.view_is
+          (took_variable v.order.now v.conditions.items v.waits.items v.variables v.levels.items i c.condition_at-condition.result.now have
           c.deref-2.result.now c.deref.result.now v.variables c.deref-2.ensures.value c.deref.ensures.value refl
           c.in-Some.ensures.1 c.condition_at-condition.ensures c.value-have.ensures
           x c.deref-in-Variable.result.now c.deref_mut.result.now W V U
@@ -98,9 +98,9 @@ returns-in-Level-clause-taken g c =
     λ _. (
       i,
       c.condition_at-condition.result.now,
-      subst (λ z. Takes z (work v.order v.conditions.items (slice_set v.waits.items i false) v.variables U) i c.condition_at-condition.result.now)
+      subst (λ z. Takes z (work v.order.now v.conditions.items (slice_set v.waits.items i false) v.variables U) i c.condition_at-condition.result.now)
           c.self.view_is
-          (took_level v.order v.conditions.items v.waits.items v.variables v.levels.items i c.condition_at-condition.result.now c.value-have.result.number
+          (took_level v.order.now v.conditions.items v.waits.items v.variables v.levels.items i c.condition_at-condition.result.now c.value-have.result.number
           c.deref-2.result.now c.deref.result.now v.variables c.deref-2.ensures.value c.deref.ensures.value refl
           c.in-Some.ensures.1 c.condition_at-condition.ensures c.value-have.ensures
           c.in-Level.k L U c.in-Level.is c.deref_mut-in-Level.ensures.value eu),

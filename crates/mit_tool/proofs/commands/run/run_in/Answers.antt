@@ -48,7 +48,7 @@ returns-clause-ended g c =
     let v : Env g.row.E.Denot = g.E.MachineEnv.env in
     let q = c.args.program.now.typed.labelled in
     let o = c.args.program.now.observer in
-    let order = c.lattice-lattice.ensures ∙ ap (λ p. p.order) (c.program-source.ensures.program ∙ ap (λ l. l.program) c.labelled.ensures.labelled) in
+    let order = c.shared_lattice-lattice.ensures ∙ ap (λ p. p.order) (c.program-source.ensures.program ∙ ap (λ l. l.program) c.labelled.ensures.labelled) in
     let env = c.in-Ok.ensures.value ∙ ap (λ l. (g.M.MakeEnv.made c.args.maker.now) l c.as_slice.result.now) order
     ∙ ap (g.M.MakeEnv.made c.args.maker.now q.program.order) c.as_slice.ensures.value in
     let told : Told = told_by (run_from v c.args.program.now.image.instrs c.args.budget (record {

@@ -6,7 +6,7 @@ use Rattle.part_tlb.specs.Envs.{part_structure, part_structure, part_touched, em
 use Rattle.part_tlb.specs.Keeps.{touch_serves}
 use Rattle.part_tlb.specs.Laws.{part_moves}
 use Rattle.part_tlb.specs.Standing.{warmed_stands, warm_step, part_serves, part_stands}
-use Rattle.part_tlb.proofs.part.PartEnv.warm_shared.Goals as goal
+use Rattle.part_tlb.proofs.part.PartEnv.warm.Goals as goal
 
 pub loop-touch-preserved : goal.loop-touch-preserved
 loop-touch-preserved c =

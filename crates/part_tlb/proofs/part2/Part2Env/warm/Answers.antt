@@ -8,7 +8,7 @@ use Rattle.part_tlb.specs.Envs.{part_structure, empty_part, part2_structure, par
 use Rattle.part_tlb.specs.Keeps.{touch_serves}
 use Rattle.part_tlb.specs.Laws.{part2_moves}
 use Rattle.part_tlb.specs.Standing.{warmed_stands, warm_step, part2_serves, part2_stands}
-use Rattle.part_tlb.proofs.part2.Part2Env.warm_shared.Goals as goal
+use Rattle.part_tlb.proofs.part2.Part2Env.warm.Goals as goal
 
 pub loop-touch-init : goal.loop-touch-init
 loop-touch-init c =

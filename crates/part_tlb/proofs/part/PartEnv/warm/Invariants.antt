@@ -1,7 +1,7 @@
 use Rattle.std.proofs.Common.{◌≡◌, drop}
 use Rattle.part_tlb.specs.Structures.{IsMadeFor, warmed}
 use Rattle.part_tlb.specs.Envs.{part_structure, part_touched, empty_part}
-use Rattle.part_tlb.proofs.part.PartEnv.warm_shared.Given as goal
+use Rattle.part_tlb.proofs.part.PartEnv.warm.Given as goal
 
 abbrev pub invariant-loop-touch : goal.invariant-loop-touch
 invariant-loop-touch l = record {

@@ -2,7 +2,7 @@ use Rattle.std.proofs.Common.{◌≡◌, ◌*◌, ℕ, refl, ap, sym, ◌∙◌,
 use Rattle.part_cache.specs.Rows.{empty_cache}
 use Rattle.part_cache.specs.declared.cache.PartCache.TheInside.{Inside}
 use Rattle.part_cache.proofs.Flat.{new_value, new_empty, new_body, body_cache}
-use Rattle.part_cache.proofs.cache.PartCache.of_shared.Goals as goal
+use Rattle.part_cache.proofs.cache.PartCache.new.Goals as goal
 
 abbrev made : goal.In_ok-lattice → Inside
 made c = record { lattice = c.in_ok-lattice.lattice; sets = c.args.sets; ways = c.args.ways; slots = c.in_ok-slots.slots }
