@@ -6,6 +6,7 @@ use Rattle.std.specs.Int.{bit_at, trailing_zeros}
 use Rattle.std.proofs.lemmas.Bool.{cases_lt, cases_eq, eq-eqb, ne_eqb, eqb-true, or_right, and_right, both_ways, not-true, not-false}
 use Rattle.std.proofs.lemmas.Nat.Bits.{bit_at-zero, bit_at_or, bit_at_and, bit_at-lt, bit_at_set_same, bit_at_set_other, bit_at_clear_same}
 use Rattle.std.proofs.lemmas.Nat.Bits.{bit_at_clear_other, bit_at-trailing_zeros}
+use Rattle.std.proofs.lemmas.List.{get_or_read}
 use mathlib.Core.Path.{fun_ext}
 use Rattle.std.proofs.lemmas.Nat.{and_le_l}
 use Rattle.label_infer.specs.Rows.{has_in, SharesBit, Meet}
@@ -128,6 +129,19 @@ without_has a x la hx = fun_ext (λ y. at y)
         and_all : (b : Bool) → (b && true) ≡ b
         and_all true = refl
         and_all false = refl
+
+-- the same, where a word is known by the list that it stands in
+pub with_read : (a : List ℕ) (x w : ℕ) → length a ≡ 48 → x < 3072 → w ≡ get_or a (x / 64) w →
+    has_in (slice_set a (x / 64) (bit_or w (1 * 2 ^ (x % 64) % 18446744073709551616))) ≡ (λ y. has_in a y || eqb x y)
+with_read a x w la hx e =
+    let is : w ≡ get_or a (x / 64) 0 = get_or_read a (x / 64) w (omega (arith, la, hx)) e 0 in
+    ap (λ z. has_in (slice_set a (x / 64) (bit_or z (1 * 2 ^ (x % 64) % 18446744073709551616)))) is ∙ with_has a x la hx
+
+pub without_read : (a : List ℕ) (x w : ℕ) → length a ≡ 48 → x < 3072 → w ≡ get_or a (x / 64) w →
+    has_in (slice_set a (x / 64) (bit_and w (18446744073709551615 - 1 * 2 ^ (x % 64) % 18446744073709551616))) ≡ (λ y. has_in a y && not (eqb x y))
+without_read a x w la hx e =
+    let is : w ≡ get_or a (x / 64) 0 = get_or_read a (x / 64) w (omega (arith, la, hx)) e 0 in
+    ap (λ z. has_in (slice_set a (x / 64) (bit_and z (18446744073709551615 - 1 * 2 ^ (x % 64) % 18446744073709551616)))) is ∙ without_has a x la hx
 
 min_bit : (p q : ℕ) → p < 2 → q < 2 → min p q ≡ 1 → (p ≡ 1) × (q ≡ 1)
 min_bit p q h k e = (omega (arith, h, k, e), omega (arith, h, k, e))

@@ -19,30 +19,31 @@ some_at (x ∷ xs) zero h = (x, refl)
 some_at (x ∷ xs) (suc k) h = some_at xs k (omega (arith, h))
 
 -- a row that is joined to that of a block
-pub union_grows : (rows : List Row) (i : ℕ) (r u : Row) (s : ℕ → Bool) → slice_get rows i ≡ Some r → has_in u.words ≡ (λ y. has_in r.words y || s y)
+pub union_grows : (rows : List Row) (i : ℕ) (r u : Row) (s : ℕ → Bool) → slice_get rows i ≡ Some r → has_in u.words.items ≡ (λ y. has_in r.words.items y || s y)
     → Grow rows (slice_set rows i u)
 union_grows rows i r u s e h k p q a b x t = ⊎_elim
     (λ (m : k ≡ i).
     let old : p ≡ r = same_Some p r (sym a ∙ ap (slice_get rows) m ∙ e) in
     let new : q ≡ u = same_Some q u (sym b ∙ ap (slice_get (slice_set rows i u)) m ∙ get_set_same rows i u (slice_get_within rows i r e)) in
-    ap (λ (z : Row). has_in z.words x) new ∙ ap (λ (f : ℕ → Bool). f x) h ∙ or_left (has_in r.words x) (s x) (ap (λ (z : Row). has_in z.words x) (sym old) ∙ t))
+    ap (λ (z : Row). has_in z.words.items x) new ∙ ap (λ (f : ℕ → Bool). f x) h
+    ∙ or_left (has_in r.words.items x) (s x) (ap (λ (z : Row). has_in z.words.items x) (sym old) ∙ t))
     (λ (n : k ≡ i → ⊥).
     let same : p ≡ q = same_Some p q (sym a ∙ sym (get_set_other rows i k u n) ∙ b) in
-    ap (λ (z : Row). has_in z.words x) (sym same) ∙ t)
+    ap (λ (z : Row). has_in z.words.items x) (sym same) ∙ t)
     (cases_eq k i)
 
-pub union_here : (rows : List Row) (i : ℕ) (r u q : Row) (s : ℕ → Bool) → slice_get rows i ≡ Some r → has_in u.words ≡ (λ y. has_in r.words y || s y)
-    → slice_get (slice_set rows i u) i ≡ Some q → Includes q s
+pub union_here : (rows : List Row) (i : ℕ) (r u q : Row) (s : ℕ → Bool) → slice_get rows i ≡ Some r
+    → has_in u.words.items ≡ (λ y. has_in r.words.items y || s y) → slice_get (slice_set rows i u) i ≡ Some q → Includes q s
 union_here rows i r u q s e h b x t =
     let new : q ≡ u = same_Some q u (sym b ∙ get_set_same rows i u (slice_get_within rows i r e)) in
-    ap (λ (z : Row). has_in z.words x) new ∙ ap (λ (f : ℕ → Bool). f x) h ∙ or_right (has_in r.words x) (s x) t
+    ap (λ (z : Row). has_in z.words.items x) new ∙ ap (λ (f : ℕ → Bool). f x) h ∙ or_right (has_in r.words.items x) (s x) t
 
 -- a row that is pushed
 pub push_here : (rows rows' : List Row) (i : ℕ) (r u q : Row) (s : ℕ → Bool) → rows' ≡ rows ++ u ∷ [] → i ≡ length rows
-    → has_in u.words ≡ (λ y. has_in r.words y || s y) → slice_get rows' i ≡ Some q → Includes q s
+    → has_in u.words.items ≡ (λ y. has_in r.words.items y || s y) → slice_get rows' i ≡ Some q → Includes q s
 push_here rows rows' i r u q s e n h b x t =
     let new : u ≡ q = same_Some u q (sym (get_push_same rows u) ∙ ap (slice_get (rows ++ u ∷ [])) (sym n) ∙ ap (λ z. slice_get z i) (sym e) ∙ b) in
-    ap (λ (z : Row). has_in z.words x) (sym new) ∙ ap (λ (f : ℕ → Bool). f x) h ∙ or_right (has_in r.words x) (s x) t
+    ap (λ (z : Row). has_in z.words.items x) (sym new) ∙ ap (λ (f : ℕ → Bool). f x) h ∙ or_right (has_in r.words.items x) (s x) t
 
 -- one condition more
 pub cover_more : (cs : List Condition) (i : ℕ) (rows rows' : List Row) (c : Condition) → length rows ≡ (i + 63) / 64 → slice_get cs i ≡ Some c

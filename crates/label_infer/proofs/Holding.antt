@@ -1,5 +1,5 @@
 -- Rows that tell which variables have each label.
-use Rattle.std.proofs.Common.{◌≡◌, ℕ, zero, suc, ◌+◌, ◌<◌, ◌≤◌, refl, sym, ap, ◌∙◌, subst, List, [], ◌∷◌, ◌++◌, length, get_or, replicate, slice_set, arith}
+use Rattle.std.proofs.Common.{◌≡◌, ℕ, zero, suc, ◌+◌, ◌<◌, ◌≤◌, refl, sym, ap, ◌∙◌, subst, List, [], ◌∷◌, ◌++◌, length, get_or, slice_set, arith}
 use Rattle.std.proofs.Common.{⊎_elim}
 use Rattle.std.specs.Prelude.{Bool, true, false, not, ◌||◌, ◌&&◌, eqb, Option, None, Some, slice_get}
 use Rattle.std.proofs.lemmas.Bool.{cases_lt, cases_eq, eq-eqb, ne_eqb, eqb-true, both_ways}
@@ -40,11 +40,6 @@ get_end : {A : Type 0} (xs : List A) → slice_get xs (length xs) ≡ None
 get_end [] = refl
 get_end (x ∷ xs) = get_end xs
 
-get_same : {A : Type 0} (n : ℕ) (v : A) (l : ℕ) (r : A) → slice_get (replicate n v) l ≡ Some r → v ≡ r
-get_same zero v l r e = absurd (none-some r e)
-get_same (suc n) v zero r e = same_Some v r e
-get_same (suc n) v (suc l) r e = get_same n v l r e
-
 or_none : (b : Bool) → (b || false) ≡ b
 or_none true = refl
 or_none false = refl
@@ -76,36 +71,46 @@ set_is : (rows : List Row) (i l : ℕ) (r' s : Row) → i < length rows → l �
 set_is rows i l r' s h q g = same_Some r' s (sym (get_set_same rows i r' h) ∙ ap (slice_get (slice_set rows i r')) (sym q) ∙ g)
 
 pub tell_more : (rows : List Row) (p : ℕ → ℕ → Bool) (i x : ℕ) (r r' : Row) → slice_get rows i ≡ Some r
-    → has_in r'.words ≡ (λ y. has_in r.words y || eqb x y) → Tell rows p →
+    → has_in r'.words.items ≡ (λ y. has_in r.words.items y || eqb x y) → Tell rows p →
     Tell (slice_set rows i r') (more_of p i x)
 tell_more rows p i x r r' e h t l s g y = ⊎_elim
     (λ (q : l ≡ i).
     let is = set_is rows i l r' s (slice_get_within rows i r e) q g in
-    ap (λ (z : Row). has_in z.words y) (sym is) ∙ ap (λ (f : ℕ → Bool). f y) h ∙ ap (λ z. z || eqb x y) (t i r e y)
+    ap (λ (z : Row). has_in z.words.items y) (sym is) ∙ ap (λ (f : ℕ → Bool). f y) h ∙ ap (λ z. z || eqb x y) (t i r e y)
     ∙ ap (λ z. p z y || eqb x y) (sym q) ∙ ap (λ z. p l y || (z && eqb x y)) (sym (eq-eqb i l (sym q))))
     (λ (n : l ≡ i → ⊥).
     t l s (sym (get_set_other rows i l r' n) ∙ g) y ∙ sym (ap (λ z. p l y || (z && eqb x y)) (ne_eqb i l (λ q. n (sym q))) ∙ or_none (p l y)))
     (cases_eq l i)
 
 pub tell_less : (rows : List Row) (p : ℕ → ℕ → Bool) (i x : ℕ) (r r' : Row) → slice_get rows i ≡ Some r
-    → has_in r'.words ≡ (λ y. has_in r.words y && not (eqb x y)) → Tell rows p →
+    → has_in r'.words.items ≡ (λ y. has_in r.words.items y && not (eqb x y)) → Tell rows p →
     Tell (slice_set rows i r') (less_of p i x)
 tell_less rows p i x r r' e h t l s g y = ⊎_elim
     (λ (q : l ≡ i).
     let is = set_is rows i l r' s (slice_get_within rows i r e) q g in
-    ap (λ (z : Row). has_in z.words y) (sym is) ∙ ap (λ (f : ℕ → Bool). f y) h ∙ ap (λ z. z && not (eqb x y)) (t i r e y)
+    ap (λ (z : Row). has_in z.words.items y) (sym is) ∙ ap (λ (f : ℕ → Bool). f y) h ∙ ap (λ z. z && not (eqb x y)) (t i r e y)
     ∙ ap (λ z. p z y && not (eqb x y)) (sym q) ∙ ap (λ z. p l y && not (z && eqb x y)) (sym (eq-eqb i l (sym q))))
     (λ (n : l ≡ i → ⊥).
     t l s (sym (get_set_other rows i l r' n) ∙ g) y ∙ sym (ap (λ z. p l y && not (z && eqb x y)) (ne_eqb i l (λ q. n (sym q))) ∙ and_all (p l y)))
     (cases_eq l i)
 
 -- no variables
-none_told : (n : ℕ) (r : Row) → has_in r.words ≡ (λ y. false) → Tell (replicate n r) (has_label [])
-none_told n r h l s e y = ap (λ (z : Row). has_in z.words y) (sym (get_same n r l s e)) ∙ ap (λ (f : ℕ → Bool). f y) h
+pub told_empty : (rows : List Row) → rows ≡ [] → Tell rows (λ l y. false)
+told_empty rows e l r g y = absurd (none-some r (sym (ap (λ z. slice_get z l) e) ∙ g))
 
-pub told_none : (n : ℕ) (r : Row) → has_in r.words ≡ (λ y. false) → (rows : List Row) (labels : List Label) → rows ≡ replicate n r → labels ≡ []
-    → Tell rows (has_label labels)
-told_none n r h rows labels er el = subst (λ z. Tell z (has_label labels)) (sym er) (subst (λ z. Tell (replicate n r) (has_label z)) (sym el) (none_told n r h))
+pub tell_push : (rows rows' : List Row) (r : Row) → rows' ≡ rows ++ r ∷ [] → has_in r.words.items ≡ (λ y. false) → Tell rows (λ l y. false)
+    → Tell rows' (λ l y. false)
+tell_push rows rows' r e h t l s g y =
+    let there : slice_get (rows ++ r ∷ []) l ≡ Some s = ap (λ z. slice_get z l) (sym e) ∙ g in
+    ⊎_elim
+    (λ (q : l ≡ length rows).
+    let is : r ≡ s = same_Some r s (sym (get_push_same rows r) ∙ ap (slice_get (rows ++ r ∷ [])) (sym q) ∙ there) in
+    ap (λ (z : Row). has_in z.words.items y) (sym is) ∙ ap (λ (f : ℕ → Bool). f y) h)
+    (λ (n : l ≡ length rows → ⊥). t l s (sym (get_push_other rows r l n) ∙ there) y)
+    (cases_eq l (length rows))
+
+pub told_none : (rows : List Row) (labels : List Label) → labels ≡ [] → Tell rows (λ l y. false) → Tell rows (has_label labels)
+told_none rows labels e t = subst (λ z. Tell rows (has_label z)) (sym e) t
 
 pub room_none : (labels : List Label) (m : ℕ) → labels ≡ [] → (x : ℕ) (a : Label) → slice_get labels x ≡ Some a → a.number < m
 room_none labels m e x a g = absurd (none-some a (sym (ap (λ z. slice_get z x) e) ∙ g))
@@ -205,17 +210,17 @@ module _ (lat : Lattice) (ll : IsLattice lat) (labels : List Label) (base : ℕ)
       go (Some a) e k = (a, e, eqb-true a.number l k)
 
   pub met_more : (rows : List Row) (l v w : ℕ) (r : Row) → Tell rows (has_label labels) → slice_get rows l ≡ Some r → Met l v → Flows lat v w
-      → (Meet has (has_in r.words) → Flows lat l w) → Met (l + 1) w
+      → (Meet has (has_in r.words.items) → Flows lat l w) → Met (l + 1) w
   met_more rows l v w r t g m up f x a e h i = ⊎_elim
       (λ (k : a.number < l). ll.chain a.number v w (m x a e k i) up)
       (λ (k : l ≤ a.number).
       let q : a.number ≡ l = omega (arith, k, h) in
-      let held : has_in r.words x ≡ true = t l r g x ∙ ap (λ z. is_label z l) e ∙ eq-eqb a.number l q in
+      let held : has_in r.words.items x ≡ true = t l r g x ∙ ap (λ z. is_label z l) e ∙ eq-eqb a.number l q in
       subst (λ z. Flows lat z w) (sym q) (f (x, i, held)))
       (cases_lt a.number l)
 
   pub least_more : (rows : List Row) (l v w : ℕ) (r : Row) → Tell rows (has_label labels) → slice_get rows l ≡ Some r → Least v →
-      ((u : ℕ) → Flows lat v u → (Meet has (has_in r.words) → Flows lat l u) → Flows lat w u) → Least w
+      ((u : ℕ) → Flows lat v u → (Meet has (has_in r.words.items) → Flows lat l u) → Flows lat w u) → Least w
   least_more rows l v w r t g least f u b m =
       f u (least u b m) (λ k.
       let s = label_of_some k.0 l (sym (t l r g k.0) ∙ k.2) in

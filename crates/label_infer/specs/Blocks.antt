@@ -8,11 +8,11 @@ use Rattle.label_infer.specs.Sets.{has_of}
 
 -- the row has each variable of a set
 abbrev pub Includes : Row → (ℕ → Bool) → Type 0
-Includes r has = (x : ℕ) → has x ≡ true → has_in r.words x ≡ true
+Includes r has = (x : ℕ) → has x ≡ true → has_in r.words.items x ≡ true
 
 -- each row has still what it had
 abbrev pub Grow : List Row → List Row → Type 0
-Grow old new = (k : ℕ) (r s : Row) → slice_get old k ≡ Some r → slice_get new k ≡ Some s → Includes s (has_in r.words)
+Grow old new = (k : ℕ) (r s : Row) → slice_get old k ≡ Some r → slice_get new k ≡ Some s → Includes s (has_in r.words.items)
 
 -- the row of a block has the variables of each of the first n conditions in it
 abbrev pub Cover : List Condition → ℕ → List Row → Type 0

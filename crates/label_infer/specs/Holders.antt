@@ -15,7 +15,7 @@ has_label labels l x = is_label (slice_get labels x) l
 
 -- the row with a number has the variables that are said to go with that number
 abbrev pub Tell : List Row → (ℕ → ℕ → Bool) → Type 0
-Tell rows p = (l : ℕ) (r : Row) → slice_get rows l ≡ Some r → (x : ℕ) → has_in r.words x ≡ p l x
+Tell rows p = (l : ℕ) (r : Row) → slice_get rows l ≡ Some r → (x : ℕ) → has_in r.words.items x ≡ p l x
 
 pub record IsKeptVariables (v : Inside) : Type 0 where
   pub small : length v.labels.items ≤ 3072

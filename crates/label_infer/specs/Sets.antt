@@ -8,4 +8,4 @@ use Rattle.label_infer.specs.Rows.{has_in}
 abbrev pub has_of : VariableSet → ℕ → Bool
 has_of Empty y = false
 has_of (One v) y = eqb v.number y
-has_of (Many r) y = has_in r.value.words y
+has_of (Many r) y = has_in r.value.words.items y

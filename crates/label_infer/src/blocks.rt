@@ -20,7 +20,12 @@ pub(crate) struct Blocks {
 }
 
 /// Adds the variables of a condition to those of its block.
-fn add_set(i: usize, set: &VariableSet, rows: &mut Vec<Row>) -> Result<(), AllocError>
+fn add_set(
+    alloc: Global,
+    i: usize,
+    set: &VariableSet,
+    rows: &mut Vec<Row>,
+) -> Result<(), AllocError>
     requires { length rows.old.items ≡ (i + 63) / 64 }
     ensures fit { IfOk result (λ _. length rows.new.items ≡ (i + 64) / 64) }
     ensures grow { IfOk result (λ _. Grow rows.old.items rows.new.items) }
@@ -28,10 +33,12 @@ fn add_set(i: usize, set: &VariableSet, rows: &mut Vec<Row>) -> Result<(), Alloc
 {
     let block = i / 64;
     if block == rows.len() {
-        rows.push(set.onto(&Row::empty()))?;
+        let mut row = Row::empty(alloc)?;
+        set.add_to(&mut row);
+        rows.push(row)?;
         return Ok(());
     }
-    rows[block] = set.onto(&rows[block]);
+    set.add_to(&mut rows[block]);
     Ok(())
 }
 
@@ -43,7 +50,7 @@ fn rows_of(alloc: Global, conditions: &[Condition]) -> Result<Vec<Row>, AllocErr
 {
     let mut rows = Vec::new(alloc);
     for i in 0..conditions.len() {
-        add_set(i, &conditions[i].have.variables, &mut rows)?;
+        add_set(alloc, i, &conditions[i].have.variables, &mut rows)?;
     }
     Ok(rows)
 }

@@ -1,9 +1,10 @@
 //! Sets of variables.
 
-ghost use Rattle.std.specs.Prelude.{◌≡◌, ◌<◌, length, ◌||◌, ◌&&◌, not, false, eqb, bit_and, MatchBool, IsTrue, ◌↔◌};
+ghost use Rattle.std.specs.Prelude.{◌≡◌, ◌<◌, length, ◌||◌, ◌&&◌, not, false, eqb, bit_and, MatchBool, IsTrue, IfOk};
 ghost use Rattle.label_infer.specs.Rows.{has_in, Meet, SharesBit};
 
 use mit_syntax::declarations::MAX_CELLS;
+use std::alloc::{AllocError, Global};
 
 /// How many variables a program can have: each declaration is one, and each element of an array.
 pub(crate) const MAX_NUMBERS: u32 = MAX_CELLS;
@@ -12,10 +13,10 @@ pub(crate) const MAX_NUMBERS: u32 = MAX_CELLS;
 const WORDS: usize = MAX_NUMBERS as usize / 64;
 
 /// A set of variables with numbers below `MAX_NUMBERS`, as a row of bits.
-#[derive(Clone, Copy)]
+#[derive(Drop)]
 pub(crate) struct Row {
-    words: [u64; WORDS],
-    ghost full: { length words ≡ 48 },
+    words: Vec<u64>,
+    ghost full: { length words.items ≡ 48 },
 }
 
 /// Whether a bit is set in both words.
@@ -25,67 +26,106 @@ fn overlap(a: u64, b: u64) -> bool
     a & b != 0
 }
 
+/// Adds the variables of other words to those of words.
+fn unite_words(words: &mut [u64], other: &[u64])
+    requires full { length words.old ≡ 48 }
+    requires as_full { length other.now ≡ 48 }
+    ensures full { length words.new ≡ 48 }
+    ensures has { has_in words.new ≡ λ y. has_in words.old y || has_in other.now y }
+{
+    for i in 0..WORDS {
+        words[i] |= other[i];
+    }
+}
+
+/// Whether words have each variable that others have.
+fn words_include(words: &[u64], other: &[u64]) -> bool
+    requires full { length words.now ≡ 48 }
+    requires as_full { length other.now ≡ 48 }
+    ensures { IsTrue result → has_in words.now ≡ λ y. has_in words.now y || has_in other.now y }
+{
+    for i in 0..WORDS {
+        if words[i] | other[i] != words[i] {
+            return false;
+        }
+    }
+    true
+}
+
+/// Whether a variable is in both.
+fn words_meet(a: &[u64], b: &[u64]) -> bool
+    requires full { length a.now ≡ 48 }
+    requires as_full { length b.now ≡ 48 }
+    ensures { MatchBool result (Meet (has_in a.now) (has_in b.now)) (Meet (has_in a.now) (has_in b.now) → ⊥) }
+{
+    for i in 0..WORDS {
+        if overlap(a[i], b[i]) {
+            return true;
+        }
+    }
+    false
+}
+
 impl Row {
     /// No variable.
-    pub(crate) fn empty() -> Row
-        ensures { has_in result.words ≡ λ y. false }
+    pub(crate) fn empty(alloc: Global) -> Result<Row, AllocError>
+        ensures { IfOk result (λ r. has_in r.words.items ≡ λ y. false) }
     {
-        Row { words: [0; WORDS] }
+        let words = vec![in alloc; 0; WORDS]?;
+        Ok(Row { words })
+    }
+
+    /// The same set.
+    pub(crate) fn copy(&self, alloc: Global) -> Result<Row, AllocError>
+        ensures { IfOk result (λ r. has_in r.words.items ≡ has_in self.now.words.items) }
+    {
+        let words = Vec::from_slice(alloc, &self.words)?;
+        Ok(Row { words })
     }
 
     /// Whether the set has a variable.
     pub(crate) fn has(&self, x: u32) -> bool
         requires { x < MAX_NUMBERS }
-        ensures { result ≡ has_in self.now.words x }
+        ensures { result ≡ has_in self.now.words.items x }
     {
         self.words[x as usize / 64] >> (x % 64) & 1 == 1
     }
 
     /// One variable more.
-    pub(crate) fn with(mut self, x: u32) -> Row
+    pub(crate) fn insert(&mut self, x: u32)
         requires { x < MAX_NUMBERS }
-        ensures { has_in result.words ≡ λ y. has_in self.words y || eqb x y }
+        ensures { has_in self.new.words.items ≡ λ y. has_in self.old.words.items y || eqb x y }
     {
         self.words[x as usize / 64] |= 1 << (x % 64);
-        self
     }
 
     /// Without a variable.
-    pub(crate) fn without(mut self, x: u32) -> Row
+    pub(crate) fn remove(&mut self, x: u32)
         requires { x < MAX_NUMBERS }
-        ensures { has_in result.words ≡ λ y. has_in self.words y && not (eqb x y) }
+        ensures { has_in self.new.words.items ≡ λ y. has_in self.old.words.items y && not (eqb x y) }
     {
         self.words[x as usize / 64] &= !(1 << (x % 64));
-        self
     }
 
-    /// The variables of both.
-    pub(crate) fn union(&self, other: &Row) -> Row
-        ensures { has_in result.words ≡ λ y. has_in self.now.words y || has_in other.now.words y }
+    /// The variables of another set more.
+    pub(crate) fn unite(&mut self, other: &Row)
+        ensures { has_in self.new.words.items ≡ λ y. has_in self.old.words.items y || has_in other.now.words.items y }
     {
-        let mut words = self.words;
-        for i in 0..WORDS {
-            words[i] |= other.words[i];
-        }
-        Row { words }
+        unite_words(&mut self.words, &other.words);
     }
 
-    /// Whether both have the same words.
-    pub(crate) fn same(&self, other: &Row) -> bool
-        ensures { IsTrue result ↔ (self.now.words ≡ other.now.words) }
+    /// Whether the set has each variable of another: true only where uniting them changes nothing.
+    pub(crate) fn includes(&self, other: &Row) -> bool
+        ensures { IsTrue result → has_in self.now.words.items ≡ λ y. has_in self.now.words.items y || has_in other.now.words.items y }
     {
-        self.words == other.words
+        words_include(&self.words, &other.words)
     }
 
     /// Whether a variable is in both.
     pub(crate) fn meets(&self, other: &Row) -> bool
-        ensures { MatchBool result (Meet (has_in self.now.words) (has_in other.now.words)) (Meet (has_in self.now.words) (has_in other.now.words) → ⊥) }
+        ensures { MatchBool result (Meet (has_in self.now.words.items) (has_in other.now.words.items))
+            (Meet (has_in self.now.words.items) (has_in other.now.words.items) → ⊥) }
     {
-        for i in 0..WORDS {
-            if overlap(self.words[i], other.words[i]) {
-                return true;
-            }
-        }
-        false
+        words_meet(&self.words, &other.words)
     }
 }

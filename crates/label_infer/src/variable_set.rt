@@ -19,7 +19,7 @@ pub(crate) enum VariableSet {
 
 /// The set of the variables of a row.
 fn of_row(alloc: Global, row: Row) -> Result<VariableSet, AllocError>
-    ensures { IfOk result (λ s. has_of s ≡ has_in row.words) }
+    ensures { IfOk result (λ s. has_of s ≡ has_in row.words.items) }
 {
     Ok(VariableSet::Many(Rc::new(alloc, row)?))
 }
@@ -31,30 +31,36 @@ fn two(alloc: Global, a: Place, b: Place) -> Result<VariableSet, AllocError>
     if a.number == b.number {
         return Ok(VariableSet::One(a));
     }
-    of_row(alloc, Row::empty().with(a.number).with(b.number))
+    let mut row = Row::empty(alloc)?;
+    row.insert(a.number);
+    row.insert(b.number);
+    of_row(alloc, row)
 }
 
 /// The variables of a row, and one more.
 fn with_one(alloc: Global, row: &Rc<Row>, more: Place) -> Result<VariableSet, AllocError>
-    ensures { IfOk result (λ s. has_of s ≡ λ y. has_in row.now.value.words y || eqb more.number y) }
+    ensures { IfOk result (λ s. has_of s ≡ λ y. has_in row.now.value.words.items y || eqb more.number y) }
 {
     if row.has(more.number) {
         return Ok(VariableSet::Many(row.clone()?));
     }
-    of_row(alloc, row.with(more.number))
+    let mut all = row.copy(alloc)?;
+    all.insert(more.number);
+    of_row(alloc, all)
 }
 
 /// The variables of two rows.
 fn merged(alloc: Global, a: &Rc<Row>, b: &Rc<Row>) -> Result<VariableSet, AllocError>
-    ensures { IfOk result (λ s. has_of s ≡ λ y. has_in a.now.value.words y || has_in b.now.value.words y) }
+    ensures { IfOk result (λ s. has_of s ≡ λ y. has_in a.now.value.words.items y || has_in b.now.value.words.items y) }
 {
-    let all = a.union(b);
-    if all.same(a) {
+    if a.includes(b) {
         return Ok(VariableSet::Many(a.clone()?));
     }
-    if all.same(b) {
+    if b.includes(a) {
         return Ok(VariableSet::Many(b.clone()?));
     }
+    let mut all = a.copy(alloc)?;
+    all.unite(b);
     of_row(alloc, all)
 }
 
@@ -100,14 +106,14 @@ impl VariableSet {
         }
     }
 
-    /// The variables of a row and of the set.
-    pub(crate) fn onto(&self, row: &Row) -> Row
-        ensures { has_in result.words ≡ λ y. has_in row.now.words y || has_of self.now y }
+    /// Adds the variables of the set to a row.
+    pub(crate) fn add_to(&self, row: &mut Row)
+        ensures { has_in row.new.words.items ≡ λ y. has_in row.old.words.items y || has_of self.now y }
     {
         match self {
-            VariableSet::Empty => *row,
-            VariableSet::One(place) => row.with(place.number),
-            VariableSet::Many(more) => row.union(more),
+            VariableSet::Empty => {}
+            VariableSet::One(place) => row.insert(place.number),
+            VariableSet::Many(more) => row.unite(more),
         }
     }
 }

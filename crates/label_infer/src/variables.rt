@@ -45,6 +45,19 @@ impl Model for Variables {
     ghost invariant = { IsKeptVariables };
 }
 
+/// No variable goes with any label.
+fn no_holders(alloc: Global) -> Result<Vec<Row>, AllocError>
+    ensures rows { IfOk result (λ v. length v.items ≡ 256) }
+    ensures told { IfOk result (λ v. Tell v.items (λ l y. false)) }
+{
+    let mut holders = Vec::with_capacity(alloc, HOLDERS)?;
+    for _ in 0..HOLDERS {
+        let row = Row::empty(alloc)?;
+        holders.push(row)?;
+    }
+    Ok(holders)
+}
+
 /// One variable more goes with a label.
 fn add_holder(holders: &mut [Row], label: Label, x: u32)
     requires rows { length holders.old ≡ 256 }
@@ -53,7 +66,7 @@ fn add_holder(holders: &mut [Row], label: Label, x: u32)
     ensures told { (p : ℕ → ℕ → Bool) → Tell holders.old p → Tell holders.new (λ l y. p l y || (eqb label.number l && eqb x y)) }
 {
     let l = usize::from(label.number);
-    holders[l] = holders[l].with(x);
+    holders[l].insert(x);
 }
 
 /// A variable no longer goes with a label.
@@ -64,7 +77,7 @@ fn remove_holder(holders: &mut [Row], label: Label, x: u32)
     ensures told { (p : ℕ → ℕ → Bool) → Tell holders.old p → Tell holders.new (λ l y. p l y && not (eqb label.number l && eqb x y)) }
 {
     let l = usize::from(label.number);
-    holders[l] = holders[l].without(x);
+    holders[l].remove(x);
 }
 
 /// Above a label, and not below what was so far.
@@ -81,9 +94,9 @@ fn room_for(room: usize, label: Label) -> usize
 /// A label, joined with another where a variable of the row is among those that have that.
 fn with_holders(have: Label, label: Label, row: &Row, holders: &Row, order: &Lattice) -> Label
     ensures up { Flows (lattice_of order.now) have.number result.number }
-    ensures met { Meet (has_in row.now.words) (has_in holders.now.words) → Flows (lattice_of order.now) label.number result.number }
+    ensures met { Meet (has_in row.now.words.items) (has_in holders.now.words.items) → Flows (lattice_of order.now) label.number result.number }
     ensures least { (u : ℕ) → Flows (lattice_of order.now) have.number u
-        → (Meet (has_in row.now.words) (has_in holders.now.words) → Flows (lattice_of order.now) label.number u)
+        → (Meet (has_in row.now.words.items) (has_in holders.now.words.items) → Flows (lattice_of order.now) label.number u)
         → Flows (lattice_of order.now) result.number u }
 {
     order.laws();
@@ -101,7 +114,7 @@ impl Variables {
     pub(crate) fn new(alloc: Global) -> Result<Variables, AllocError>
         ensures { IfOk result (λ v. v ≡ []) }
     {
-        let holders = vec![in alloc; Row::empty(); HOLDERS]?;
+        let holders = no_holders(alloc)?;
         Ok(Variables {
             labels: Vec::new(alloc),
             holders,
@@ -172,7 +185,8 @@ impl Variables {
 
     /// A label, joined with those of the variables of a row.
     fn with_labels(&self, base: Label, row: &Row, order: &Lattice) -> Label
-        ensures { result.number ≡ value_from (lattice_of order.now) (label_at order.now.bottom self.now) base.number (has_in row.now.words) (length self.now) }
+        ensures { result.number ≡ value_from (lattice_of order.now) (label_at order.now.bottom self.now) base.number
+            (has_in row.now.words.items) (length self.now) }
     {
         order.laws();
         let mut have = base;

@@ -8,5 +8,5 @@ returns c =
     let a = c.args.a.number in
     let b = c.args.b.number in
     if_ok c.of_row.result
-    (λ s h. h ∙ c.with-2.ensures ∙ ap (λ (f : ℕ → Bool). λ y. f y || eqb b y) c.with.ensures
-    ∙ ap (λ (f : ℕ → Bool). λ y. (f y || eqb a y) || eqb b y) c.empty.ensures) c.of_row.ensures
+    (λ s h. h ∙ c.insert-2.ensures ∙ ap (λ (f : ℕ → Bool). λ y. f y || eqb b y) c.insert.ensures
+    ∙ ap (λ (f : ℕ → Bool). λ y. (f y || eqb a y) || eqb b y) c.in_ok-row.ensures) c.of_row.ensures

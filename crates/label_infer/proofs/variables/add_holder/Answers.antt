@@ -1,4 +1,4 @@
-use Rattle.std.proofs.Common.{◌≡◌, ◌<◌, refl, rules, length, subst}
+use Rattle.std.proofs.Common.{◌≡◌, ◌<◌, refl, rules, ap, ◌∙◌, get_or, length, subst}
 use Rattle.std.specs.Prelude.{slice_get, slice_set, Some}
 use Rattle.std.proofs.lemmas.Option.{slice_get_read}
 use Rattle.label_infer.specs.declared.row.Row.{Row}
@@ -12,6 +12,7 @@ returns-clause-told c p t =
     let i = c.from-l.result in
     let r : Row = c.index-holders-l.result in
     let within : i < length rows = search rules in
-    let there : slice_get rows i ≡ Some r = slice_get_read rows (length rows) i r refl within c.index-holders-l.is in
-    subst (λ n. Tell (slice_set rows i c.with.result) (more_of p n c.args.x)) c.from-l.ensures
-    (tell_more rows p i c.args.x r c.with.result there c.with.ensures t)
+    let row = get_or rows i r in
+    let there : slice_get rows i ≡ Some row = slice_get_read rows (length rows) i r refl within c.index-holders-l.is ∙ ap Some c.index-holders-l.is in
+    subst (λ n. Tell (slice_set rows i c.insert.new.self) (more_of p n c.args.x)) c.from-l.ensures
+    (tell_more rows p i c.args.x row c.insert.new.self there c.insert.ensures t)

@@ -1,11 +1,12 @@
-use Rattle.std.proofs.Common.{arith}
-use Rattle.label_infer.proofs.Bits.{meet_at, apart}
+use Rattle.std.proofs.Common.{ℕ, List, subst}
+use Rattle.std.specs.Prelude.{MatchBool}
+use Rattle.label_infer.specs.Rows.{has_in, Meet}
 use Rattle.label_infer.proofs.row.Row.meets.Goals as goal
 
 pub returns : goal.returns
 returns c =
-    let end = c.loop-i-test.false in
-    apart c.args.self.now.words c.args.other.now.words c.args.self.now.full (λ k h. c.loop-i.invariant k (omega (arith, end, h)))
-
-pub returns-then-overlap : goal.returns-then-overlap
-returns-then-overlap c = meet_at c.args.self.now.words c.args.other.now.words c.loop-i.i c.if-overlap.ensures
+    let a = c.args.self.now.words.items in
+    let b = c.deref-2.result.now in
+    subst (λ (w : List ℕ). MatchBool c.words_meet.result (Meet (has_in a) (has_in w)) (Meet (has_in a) (has_in w) → ⊥)) c.deref-2.ensures.value
+    (subst (λ (w : List ℕ). MatchBool c.words_meet.result (Meet (has_in w) (has_in b)) (Meet (has_in w) (has_in b) → ⊥)) c.deref.ensures.value
+    c.words_meet.ensures)

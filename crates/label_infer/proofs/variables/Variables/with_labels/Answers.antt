@@ -26,7 +26,7 @@ loop-l-preserved c =
     let rows = i.rows in
     let within : l < length v.holders.items = omega (arith, test, end, rows) in
     let there : slice_get v.holders.items l ≡ Some r = slice_get_read v.holders.items (length v.holders.items) l r refl within c.index.ensures in
-    let has = has_in c.args.row.now.words in
+    let has = has_in c.args.row.now.words.items in
     let base = c.args.base.number in
     record {
       up = ll.chain base c.loop-l.have.number new h.up w.up;
@@ -43,7 +43,7 @@ returns c =
     let h = c.loop-l.invariant in
     let la : Lattice = lattice_of c.args.order.now in
     let base = c.args.base.number in
-    let has = has_in c.args.row.now.words in
+    let has = has_in c.args.row.now.words.items in
     let test = c.loop-l-test.false in
     let is = value_is la c.laws.ensures.lattice v.labels.items base has c.args.order.now.bottom c.loop-l.have.number c.loop-l.l
     (λ x a e. let k = i.room x a e in omega (arith, k, test)) h.up h.met h.least in

@@ -1,5 +1,0 @@
-use Rattle.std.proofs.Common.{◌≡◌, ◌<◌, ℕ, get_or, bit_and}
-use Rattle.label_infer.proofs.row.Row.meets.Given as goal
-
-abbrev pub invariant-loop-i : goal.invariant-loop-i
-invariant-loop-i l = (k : ℕ) → k < l.i → bit_and (get_or l.self.words k 0) (get_or l.other.words k 0) ≡ 0
