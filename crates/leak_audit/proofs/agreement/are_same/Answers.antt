@@ -1,4 +1,4 @@
-use Rattle.std.proofs.Common.{◌≡◌, true, sym, subst}
+use Rattle.std.proofs.Common.{◌≡◌, sym, subst}
 use Rattle.std.specs.Bool.{Decides}
 use Rattle.leak_audit.proofs.SameTouches.{touches_decide}
 use Rattle.leak_audit.proofs.agreement.are_same.Goals as goal
