@@ -115,11 +115,8 @@ fn blamed(
     ensures { result ≡ variable_blamed (low_of (order_of p.now) (labels_of p.now) observer.number) image.now.instrs place work reason }
 {
     match reason {
-        Reason::Guard
-        | Reason::Assigned
-        | Reason::Right
-        | Reason::Wait
-        | Reason::Estimate => last_hidden(p, observer, image, 0, place),
+        Reason::Guard | Reason::Assigned | Reason::Right | Reason::Wait | Reason::Estimate =>
+            last_hidden(p, observer, image, 0, place),
         Reason::Index => last_hidden(p, observer, image, 0, after_index(image, place, work)),
         Reason::Left => last_hidden(p, observer, image, 0, begin(image, place)),
         Reason::Felt | Reason::Target | Reason::Seen => None,
@@ -127,12 +124,7 @@ fn blamed(
 }
 
 /// The variable to blame for a fault of the image of a program.
-pub(crate) fn blamed_for(
-    p: &Labelled,
-    observer: Label,
-    image: &Image,
-    fault: Fault,
-) -> Option<u32>
+pub(crate) fn blamed_for(p: &Labelled, observer: Label, image: &Image, fault: Fault) -> Option<u32>
     requires image { image.now ≡ lowered p.now }
     requires place { fault.place < length image.now.instrs }
     ensures { result ≡ blamed_of p.now observer.number fault }
