@@ -52,7 +52,11 @@ impl HardwareEnv {
     }
 
     // The machine with nothing in its banks. Fails only for want of memory.
-    fn empty(alloc: Global, lattice: &Rc<Lattice>, hardware: Hardware) -> Result<HardwareEnv, Memory>
+    fn empty(
+        alloc: Global,
+        lattice: &Rc<Lattice>,
+        hardware: Hardware,
+    ) -> Result<HardwareEnv, Memory>
         requires banks { HasBanks hardware }
         requires small { AreSmall hardware }
         ensures { IfOk result (λ e. e ≡ empty_machine hardware lattice.now.value) }

@@ -44,7 +44,11 @@ fn state_at<E: MachineEnv + Drop, M: MakeEnv<E>>(
     ensures env { IfOk result (λ s. s.env ≡ M.made maker.now (shown_of program.now.labels).labelled.program.order from.now.touches.items) }
     ensures stands { IfOk result (Stands E.serves program.now.image) }
 {
-    let env = maker.make(alloc, program.image.shared_lattice(), from.touches.as_slice())?;
+    let env = maker.make(
+        alloc,
+        program.image.shared_lattice(),
+        from.touches.as_slice(),
+    )?;
     let memory = from.memory.clone()?;
     let state = load(alloc, &program.image, memory, env)?;
     Ok(state)
