@@ -1,6 +1,7 @@
 """Spaces of starts, as start files of version 3 tell them, for `second-reading`."""
 
 import dataclasses
+import itertools
 import math
 import re
 import tomllib
@@ -8,7 +9,8 @@ import tomllib
 from refusals import Stop
 
 MOST = 2**40
-RANGE = re.compile(r"([0-9]+)\.\.([0-9]+)")
+ITEM = re.compile(r"(-?[0-9]+)(?:\.\.(-?[0-9]+))?", re.ASCII)
+COMMA = re.compile(" *, *")
 
 
 def fault(what):
@@ -19,27 +21,59 @@ def is_number(value):
     return isinstance(value, int) and not isinstance(value, bool)
 
 
+class Values:
+    """What one place of the memory may have: ranges from left to right, each ascending."""
+
+    def __init__(self, ranges):
+        self.ranges = ranges
+        self.count = sum(last - first + 1 for first, last in ranges)
+
+    def at(self, number):
+        """The value with a number, from 0."""
+        for first, last in self.ranges:
+            if number <= last - first:
+                return first + number
+            number -= last - first + 1
+        raise IndexError(number)
+
+    def has_one_twice(self):
+        ends = sorted(self.ranges)
+        return any(second[0] <= first[1] for first, second in itertools.pairwise(ends))
+
+
+ZERO = Values([(0, 0)])
+
+
+def item(text):
+    """The first and the last number of an item."""
+    found = ITEM.fullmatch(text)
+    if not found:
+        raise fault("not a range")
+    first, last = int(found[1]), int(found[2] or found[1])
+    if not -(2**63) <= first <= last < 2**63:
+        raise fault("not a range")
+    return first, last
+
+
 def values(given):
     """The values that one place of the memory may have."""
     if is_number(given):
-        return range(given, given + 1)
-    found = RANGE.fullmatch(given) if isinstance(given, str) else None
-    low, high = (int(found[1]), int(found[2])) if found else (1, 0)
-    if low > high or high > MOST:
+        return Values([(given, given)])
+    if not isinstance(given, str):
         raise fault("not a range")
-    return range(low, high + 1)
+    return Values([item(text) for text in COMMA.split(given)])
 
 
 def values_of(memory, name, length):
     """Those of a scalar, or of each element of an array; those that are left out are 0."""
     if name not in memory:
-        return [range(1)] * (length or 1)
+        return [ZERO] * (length or 1)
     given = memory[name]
     if length is None:
         return [values(given)]
     if not isinstance(given, list) or len(given) > length:
         raise fault("not a range")
-    return [values(one) for one in given] + [range(1)] * (length - len(given))
+    return [values(one) for one in given] + [ZERO] * (length - len(given))
 
 
 def is_touch(touch, labels):
@@ -61,14 +95,14 @@ class Space:
     touches: list
 
     def size(self):
-        return math.prod(len(place) for place in self.places)
+        return math.prod(place.count for place in self.places)
 
     def start(self, number):
         """The start with a number, from 0: the last place goes round first."""
         memory = []
         for place in reversed(self.places):
-            number, digit = divmod(number, len(place))
-            memory.append(place[digit])
+            number, digit = divmod(number, place.count)
+            memory.append(place.at(digit))
         return memory[::-1], self.touches
 
 
@@ -85,6 +119,8 @@ def space_in(document, program):
     if not isinstance(memory, dict):
         raise fault("not a range")
     places = [one for name, length in program.lengths.items() for one in values_of(memory, name, length)]
+    if any(place.has_one_twice() for place in places):
+        raise fault("a value twice")
     if not isinstance(touches, list) or not all(is_touch(touch, program.lattice.names) for touch in touches):
         raise fault("bad touch")
     space = Space(places, [(touch["place"], touch["label"], touch["address"]) for touch in touches])

@@ -1,4 +1,5 @@
 pub mod Ascii
+pub mod Lists
 pub mod Filling
 pub mod Touching
 pub mod Reading

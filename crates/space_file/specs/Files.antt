@@ -1,5 +1,6 @@
 -- The space that a file gives for a program, or the first refusal.
-use Rattle.std.specs.Prelude.{◌≡◌, ℕ, pos, ◌||◌, ◌&&◌, nat_le, ◌^◌, if◌then◌else◌, Bool, true, false, List, Option, None, Some, Result, Ok, Err, codes}
+use Rattle.std.specs.Prelude.{◌≡◌, ℕ, pos, ◌||◌, ◌&&◌, nat_le, ◌^◌, if◌then◌else◌, Bool, true, false, List, [], ◌∷◌, Option, None, Some, Result, Ok, Err, codes}
+use Rattle.std.specs.List.{list_all}
 use Rattle.std.specs.Ordering.{int_eq}
 use Rattle.std.specs.Str.{bytes_eq}
 use Rattle.toml.specs.Data.{Data, Members, no_members, get_member, integer, table}
@@ -10,10 +11,9 @@ use Rattle.start_file.specs.Tables.{keys_pass}
 use Rattle.start_file.specs.Touches.{touches_in}
 use Rattle.start_file.specs.Starts.{IsDocument}
 use Rattle.space_file.specs.declared.fault.SpaceFault.{SpaceFault}
-use Rattle.space_file.specs.declared.fault.SpaceFault.TheVariants.{NotToml, Version, UnknownKey, NoSpace, NotRange, BadTouch, TooMany}
-use Rattle.space_starts.specs.declared.space.Interval.{Interval}
-use Rattle.space_starts.specs.Space.{SpaceValue, size_of}
-use Rattle.space_file.specs.Ranges.{names_pass, memory_of}
+use Rattle.space_file.specs.declared.fault.SpaceFault.TheVariants.{NotToml, Version, UnknownKey, NoSpace, NotRange, ValueTwice, BadTouch, TooMany}
+use Rattle.space_starts.specs.Space.{SpaceValue, size_of, apart}
+use Rattle.space_file.specs.Ranges.{Values, names_pass, memory_of}
 
 -- version 3
 abbrev pub is_three : Option Data → Bool
@@ -31,7 +31,7 @@ abbrev pub space_keys_pass : Syntax → Members → Bool
 space_keys_pass p ms = keys_pass is_space_key ms && names_pass p.declarations (get_member (codes "memory") ms)
 
 -- the values, where `memory` is a table or left out
-abbrev pub values_in : Syntax → Option Data → Option (List Interval)
+abbrev pub values_in : Syntax → Option Data → Option (List Values)
 values_in p None = memory_of p.declarations no_members
 values_in p (Some (table ms)) = memory_of p.declarations ms
 values_in p (Some _) = None
@@ -40,12 +40,17 @@ values_in p (Some _) = None
 abbrev pub counted : SpaceValue → Result SpaceValue SpaceFault
 counted s = if nat_le (size_of s) (2 ^ 40) then Ok s else Err TooMany
 
-abbrev pub from_parts : Option (List Interval) → Option (List Touch) → Result SpaceValue SpaceFault
-from_parts None ts = Err NotRange
-from_parts (Some m) None = Err BadTouch
-from_parts (Some m) (Some ts) = counted (record { memory = m; touches = ts })
+-- values of which no variable has one twice, and touches
+abbrev pub from_values : List Values → Option (List Touch) → Result SpaceValue SpaceFault
+from_values m None = Err BadTouch
+from_values m (Some ts) = counted (record { memory = m; touches = ts })
 
--- a space: first the keys are checked, then the values, then the touches, then the size
+abbrev pub from_parts : Option (List Values) → Option (List Touch) → Result SpaceValue SpaceFault
+from_parts None ts = Err NotRange
+from_parts (Some m) ts = if list_all apart m then from_values m ts else Err ValueTwice
+
+-- a space: first the keys are checked, then that the values are lists, then that none has a value twice, then the touches,
+-- then the size
 abbrev pub space_in : Syntax → Members → Result SpaceValue SpaceFault
 space_in p ms =
     if space_keys_pass p ms

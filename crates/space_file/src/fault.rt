@@ -21,9 +21,12 @@ pub enum SpaceFault {
     /// There is no table `space`.
     #[error("no space")]
     NoSpace,
-    /// A value of the memory is no integer and no range, or no array of these that fits.
+    /// A value of the memory is no integer and no list of ranges, or no array of these that fits.
     #[error("space: not a range")]
     NotRange,
+    /// A variable has a value twice.
+    #[error("space: a value twice")]
+    ValueTwice,
     /// A touch is none.
     #[error("space: bad touch")]
     BadTouch,

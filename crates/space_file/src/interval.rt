@@ -1,15 +1,15 @@
-//! Intervals of values, as a file writes them.
+//! Numbers and intervals of them, as a file writes them.
 
-ghost use Rattle.std.specs.Prelude.{◌≡◌, ◌≤◌, ◌<◌, ◌^◌, ◌&&◌, ◌==◌, nat_lt, slice_index, length, position, IfSome, Some, pos};
-ghost use Rattle.toml.specs.View.{view};
+ghost use Rattle.std.specs.Prelude.{◌≡◌, ◌≤◌, ◌<◌, ◌-◌, ◌^◌, ◌&&◌, ◌==◌, nat_lt, slice_index, length, position, IfSome, Some};
 ghost use Rattle.space_starts.specs.Space.{IsInterval};
-ghost use Rattle.space_file.specs.Ranges.{with_digit, number_of, between, ends_of, parted_at, range_of, only, interval_of};
+ghost use Rattle.space_file.specs.Ranges.{with_digit, natural_of, number_of, between, ends_of, parted_at, item_of, only};
 
 use space_starts::space::Interval;
-use toml::Value;
 
-/// The greatest number in the text of a range.
-const MAX_END: u64 = 1 << 40;
+/// The greatest number of 64 bits with a sign, and the least without its sign.
+const MAX_NUMBER: u64 = (1 << 63) - 1;
+
+const MAX_BELOW_ZERO: u64 = 1 << 63;
 
 /// One value.
 pub(crate) fn only(value: i64) -> Interval
@@ -18,48 +18,63 @@ pub(crate) fn only(value: i64) -> Interval
 {
     Interval {
         first: value,
-        count: 1,
+        more: 0,
     }
 }
 
 // A number with one digit more.
-fn with_digit(number: u64, byte: u8) -> Option<u64>
-    requires { number ≤ 2 ^ 40 }
-    ensures value { result ≡ with_digit number byte }
-    ensures few { IfSome result (λ n. n ≤ 2 ^ 40) }
+fn with_digit(most: u64, number: u64, byte: u8) -> Option<u64>
+    ensures value { result ≡ with_digit most number byte }
+    ensures few { IfSome result (λ n. n ≤ most) }
 {
     if !byte.is_ascii_digit() {
         return None;
     }
-    let more = number * 10 + u64::from(byte - b'0');
-    if more <= MAX_END { Some(more) } else { None }
+    let more = u128::from(number) * 10 + u128::from(byte - b'0');
+    if more <= u128::from(most) {
+        Some(more as u64)
+    } else {
+        None
+    }
 }
 
-// The number that at least one digit writes.
-fn number(digits: &[u8]) -> Option<u64>
-    ensures value { result ≡ number_of digits.now }
-    ensures few { IfSome result (λ n. n ≤ 2 ^ 40) }
+// The number that at least one digit writes, if it is not above a limit.
+fn natural(most: u64, digits: &[u8]) -> Option<u64>
+    ensures value { result ≡ natural_of most digits.now }
+    ensures few { IfSome result (λ n. n ≤ most) }
 {
     if digits.is_empty() {
         return None;
     }
     let mut number = 0;
     for byte in digits {
-        number = with_digit(number, *byte)?;
+        number = with_digit(most, number, *byte)?;
     }
     Some(number)
 }
 
+// The number that digits write, after a minus sign or not.
+fn number(text: &[u8]) -> Option<i64>
+    ensures { result ≡ number_of text.now }
+{
+    let (first, rest) = text.split_first()?;
+    if *first == b'-' {
+        let number = natural(MAX_BELOW_ZERO, rest)?;
+        return Some((-i128::from(number)) as i64);
+    }
+    let number = natural(MAX_NUMBER, text)?;
+    Some(number as i64)
+}
+
 // The numbers from one to another one.
-fn between(first: u64, last: u64) -> Option<Interval>
-    requires { last ≤ 2 ^ 40 }
+fn between(first: i64, last: i64) -> Option<Interval>
     ensures value { result ≡ between first last }
     ensures is { IfSome result IsInterval }
 {
     if first <= last {
         Some(Interval {
-            first: first as i64,
-            count: last - first + 1,
+            first,
+            more: last.abs_diff(first),
         })
     } else {
         None
@@ -83,7 +98,7 @@ fn ends(first: &[u8], last: &[u8]) -> Option<Interval>
     between(first, last)
 }
 
-// The range of a text whose first point stands at a place.
+// The interval of a text whose first point stands at a place.
 fn parted(text: &[u8], point: usize) -> Option<Interval>
     requires { point < length text.now }
     ensures value { result ≡ parted_at text.now (Some point) }
@@ -103,23 +118,16 @@ fn first_point(text: &[u8]) -> Option<usize>
     text.iter().position(|byte| *byte == b'.')
 }
 
-// The range that a text writes.
-fn range(text: &[u8]) -> Option<Interval>
-    ensures value { result ≡ range_of text.now }
+/// The numbers of an item: one, or those from one to another one.
+pub(crate) fn item(text: &[u8]) -> Option<Interval>
+    ensures value { result ≡ item_of text.now }
     ensures is { IfSome result IsInterval }
 {
-    let point = first_point(text)?;
-    parted(text, point)
-}
-
-/// The values that a file writes: an integer is one, and a text is a range `A..B` of two numbers from 0 to 2^40.
-pub(crate) fn interval(value: &Value) -> Option<Interval>
-    ensures value { result ≡ interval_of (view value.now) }
-    ensures is { IfSome result IsInterval }
-{
-    match value {
-        Value::Integer(number) => Some(only(*number)),
-        Value::String(text) => range(text.as_bytes()),
-        _ => None,
+    match first_point(text) {
+        Some(point) => parted(text, point),
+        None => {
+            let number = number(text)?;
+            Some(only(number))
+        }
     }
 }

@@ -5,7 +5,8 @@ ghost use Rattle.toml.specs.View.{view, table_view};
 ghost use Rattle.mit_syntax.specs.Valid.{IsValid};
 ghost use Rattle.start_file.specs.Tables.{data_of};
 ghost use Rattle.start_file.specs.Starts.{IsDocument};
-ghost use Rattle.space_starts.specs.Space.{seen, size_of, IsSpaceFor};
+ghost use Rattle.std.specs.List.{list_all};
+ghost use Rattle.space_starts.specs.Space.{lists, apart, seen, size_of, IsValues, IsSpaceFor};
 ghost use Rattle.space_file.specs.Files.{is_three, space_in, space_of, document_space, counted, GivesSpace};
 
 use crate::fault::SpaceFault;
@@ -14,8 +15,9 @@ use crate::memory::values;
 use crate::table::at;
 use crate::touch::touches;
 use mit_syntax::program::Program;
-use space_starts::space::Space;
-use std::alloc::Global;
+use space_starts::apart::are_apart;
+use space_starts::space::{Interval, Space};
+use std::alloc::{AllocError, Global};
 use toml::{Table, Value};
 
 fn document(alloc: Global, bytes: &[u8]) -> Result<Table, SpaceFault>
@@ -47,8 +49,22 @@ fn is_three(version: Option<&Value>) -> bool
     }
 }
 
+// Whether no variable has a value twice.
+fn have_none_twice(alloc: Global, memory: &[Vec<Interval>]) -> Result<bool, AllocError>
+    ensures { IfOk result (λ b. b ≡ list_all apart (lists memory.now)) }
+{
+    for values in memory {
+        let apart = are_apart(alloc, values)?;
+        if !apart {
+            return Ok(false);
+        }
+    }
+    Ok(true)
+}
+
 // A space that has not too many starts.
 fn counted(alloc: Global, space: Space) -> Result<Space, SpaceFault>
+    requires { All IsValues (lists space.memory.items) }
     ensures ok { IfOk result (λ s. counted (seen space) ≡ Ok (seen s)) }
     ensures same { IfOk result (λ s. (seen s ≡ seen space) × (size_of (seen s) ≤ 2 ^ 40)) }
     ensures refused { IfErr result (λ e. e ≢ SpaceFault.Memory → counted (seen space) ≡ Err e) }
@@ -69,6 +85,10 @@ fn space_in(alloc: Global, program: &Program, table: &Table) -> Result<Space, Sp
         return Err(SpaceFault::UnknownKey);
     }
     let memory = values(alloc, program, at(table, "memory"))?;
+    let once = have_none_twice(alloc, &memory)?;
+    if !once {
+        return Err(SpaceFault::ValueTwice);
+    }
     let touches = touches(alloc, program, at(table, "touch"))?;
     counted(alloc, Space { memory, touches })
 }
@@ -107,8 +127,8 @@ fn document_space(alloc: Global, program: &Program, table: &Table) -> Result<Spa
 /// touches are of labels of the program, and it has at most 2^40 starts.
 ///
 /// # Errors
-/// What the file is refused for first, or `Memory`. First the document, its version and its keys are checked, then the
-/// values, then the touches, and then the number of starts.
+/// What the file is refused for first, or `Memory`. First the document, its version and its keys are checked, then that
+/// the values are lists, then that no variable has one twice, then the touches, and then the number of starts.
 pub fn read_space(alloc: Global, bytes: &[u8], program: &Program) -> Result<Space, SpaceFault>
     ensures ok { IfOk result (λ s. GivesSpace program.now bytes.now (Ok (seen s))) }
     ensures valid { IfOk result (λ s. IsSpaceFor program.now (seen s)) }

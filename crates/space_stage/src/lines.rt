@@ -27,6 +27,7 @@ pub(crate) fn space_fault(fault: SpaceFault) -> Line
         SpaceFault::UnknownKey => words(b"space: unknown key\n"),
         SpaceFault::NoSpace => words(b"starts: no space\n"),
         SpaceFault::NotRange => words(b"space: not a range\n"),
+        SpaceFault::ValueTwice => words(b"space: a value twice\n"),
         SpaceFault::BadTouch => words(b"space: bad touch\n"),
         SpaceFault::TooMany => words(b"space: too many starts\n"),
         SpaceFault::Memory => memory(),

@@ -6,21 +6,21 @@ use Rattle.label_lattice.specs.Lattice.{Flows}
 use Rattle.label_lattice.specs.Order.{Order}
 use Rattle.timing_types.specs.Labelled.{LabelledProgram, order_of, labels_of}
 use Rattle.space_starts.specs.declared.space.Interval.{Interval}
-use Rattle.space_starts.specs.Space.{SpaceValue, size_of, start_at}
+use Rattle.space_starts.specs.Space.{SpaceValue, many, size_of, start_at}
 use Rattle.leak_audit.specs.Agreement.{start_of, AgreeFor}
 
 -- the observer sees the variable, and it has two values or more
-abbrev pub Ranges : LabelledProgram → ℕ → List Interval → ℕ → Type 0
-Ranges p o is x = Flows (order_of p) (labels_of p x) o × (i : Interval) × (slice_get is x ≡ Some i) × (1 < i.count)
+abbrev pub Ranges : LabelledProgram → ℕ → List (List Interval) → ℕ → Type 0
+Ranges p o vs x = Flows (order_of p) (labels_of p x) o × (v : List Interval) × (slice_get vs x ≡ Some v) × (1 < many v)
 
 -- this variable does, and none before it
-pub record IsFirstRanging (p : LabelledProgram) (o : ℕ) (is : List Interval) (x : ℕ) : Type 0 where
-  pub here : Ranges p o is x
-  pub first : (y : ℕ) → y < x → Ranges p o is y → ⊥
+pub record IsFirstRanging (p : LabelledProgram) (o : ℕ) (vs : List (List Interval)) (x : ℕ) : Type 0 where
+  pub here : Ranges p o vs x
+  pub first : (y : ℕ) → y < x → Ranges p o vs y → ⊥
 
 -- none does
-abbrev pub NoneRanges : LabelledProgram → ℕ → List Interval → Type 0
-NoneRanges p o is = (x : ℕ) → Ranges p o is x → ⊥
+abbrev pub NoneRanges : LabelledProgram → ℕ → List (List Interval) → Type 0
+NoneRanges p o vs = (x : ℕ) → Ranges p o vs x → ⊥
 
 -- each two starts agree
 abbrev pub AllAgree : {E : Type 0} → Env E → (Order → E → Type 0) → (Order → List Touch → E) → LabelledProgram → ℕ → SpaceValue → Type 0

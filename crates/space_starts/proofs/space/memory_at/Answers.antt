@@ -1,7 +1,7 @@
-use Rattle.std.proofs.Common.{◌≡◌, ◌∙◌, ap, sym, subst}
-use Rattle.start_space.specs.Space.{IsChoice, nth, size}
+use Rattle.std.proofs.Common.{◌∙◌, ap, sym, subst}
+use Rattle.start_space.specs.Space.{IsChoice, nth}
 use Rattle.start_space.proofs.Numbers.{chosen as choice_at}
-use Rattle.space_starts.specs.Space.{counts, chosen}
+use Rattle.space_starts.specs.Space.{lists, chosen}
 use Rattle.std.proofs.lemmas.Result.{IfOk-weaker}
 use Rattle.space_starts.proofs.space.memory_at.Goals as goal
 
@@ -13,5 +13,5 @@ chosen-requires-clause-choice c =
 pub returns : goal.returns
 returns c =
     IfOk-weaker c.chosen.result _ _
-    (λ m e. e ∙ (ap (chosen c.args.memory.now) c.choose.ensures ∙ ap (λ z. chosen c.args.memory.now (nth z c.args.number)) c.requires.ranges))
+    (λ m e. e ∙ (ap (chosen (lists c.args.memory.now)) c.choose.ensures ∙ ap (λ z. chosen (lists c.args.memory.now) (nth z c.args.number)) c.requires.ranges))
     c.chosen.ensures
