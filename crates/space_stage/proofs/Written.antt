@@ -5,7 +5,7 @@ use Rattle.mit_syntax.specs.Program.{Syntax}
 use Rattle.start_file.specs.Starts.{StartValue, IsFor}
 use Rattle.start_space.specs.Space.{size, nth}
 use Rattle.space_starts.specs.declared.space.Interval.{Interval}
-use Rattle.space_starts.specs.Space.{SpaceValue, counts, chosen, size_of, start_at, starts_from, IsInterval, IsSpaceFor}
+use Rattle.space_starts.specs.Space.{SpaceValue, many, counts, chosen, size_of, start_at, starts_from, IsValues, IsSpaceFor}
 use Rattle.tool_stages.proofs.StartLemmas.{count_given}
 use Rattle.space_stage.specs.Given.{GivenValue, GivenIs, IsFitting}
 use Rattle.space_stage.specs.Listed.{WritesOut, AreFitting}
@@ -36,18 +36,22 @@ product zero b h k = absurd (omega (arith, h))
 product (suc a) zero h k = absurd (omega (arith, k))
 product (suc a) (suc b) h k = omega arith
 
-some_size : (is : List Interval) → All IsInterval is → 0 < size (counts is)
+some_many : (is : List Interval) → 0 < length is → 0 < many is
+some_many [] h = absurd (omega (arith, h))
+some_many (i ∷ is) h = omega arith
+
+some_size : (vs : List (List Interval)) → All IsValues vs → 0 < size (counts vs)
 some_size [] h = omega arith
-some_size (i ∷ is) h =
-    let first = (h 0 i (omega arith)).some in
-    let rest = some_size is (λ k d lt. h (suc k) d (omega (arith, lt))) in
-    product i.count (size (counts is)) first rest
+some_size (v ∷ vs) h =
+    let first = some_many v (h 0 v (omega arith)).some in
+    let rest = some_size vs (λ k d lt. h (suc k) d (omega (arith, lt))) in
+    product (many v) (size (counts vs)) first rest
 
 -- ---- each is for the program
 
-values_long : (is : List Interval) (n : ℕ) → length (chosen is (nth (counts is) n)) ≡ length is
+values_long : (vs : List (List Interval)) (n : ℕ) → length (chosen vs (nth (counts vs) n)) ≡ length vs
 values_long [] n = refl
-values_long (i ∷ is) n = ap suc (values_long is _)
+values_long (v ∷ vs) n = ap suc (values_long vs _)
 
 module _ (p : Syntax) (s : SpaceValue) (h : IsSpaceFor p s) where
   start_fits : (n : ℕ) → IsFor p (start_at s n)

@@ -5,7 +5,7 @@ ghost use Rattle.std.specs.Prelude.{◌≡◌, ◌≤◌, ◌<◌, ◌^◌, ◌�
 ghost use Rattle.tim_base.specs.Kept.{KeepsFiles, NoCountFalls};
 ghost use Rattle.tim_base.specs.Faults.{Rose};
 ghost use Rattle.start_file.specs.Starts.{seen};
-ghost use Rattle.space_starts.specs.Space.{seen as seen_space, size_of, all_starts, start_at, IsInterval};
+ghost use Rattle.space_starts.specs.Space.{seen as seen_space, lists, size_of, all_starts, start_at, IsValues};
 ghost use Rattle.space_starts.specs.Chooser.{IsChooser};
 ghost use Rattle.tool_texts.specs.Ends.{IsStop};
 ghost use Rattle.tool_stages.specs.Fetches.{Fetches};
@@ -30,7 +30,7 @@ fn start_at(
     chooser: &mut Chooser,
     number: u64,
 ) -> Result<Start, AllocError>
-    requires values { All IsInterval space.now.memory.items }
+    requires values { All IsValues (lists space.now.memory.items) }
     requires few { size_of (seen_space space.now) ≤ 2 ^ 40 }
     requires chooser { IsChooser (seen_space space.now) chooser.old }
     requires number { number < size_of (seen_space space.now) }
@@ -44,7 +44,7 @@ fn start_at(
 
 // All starts of a space that has so many.
 fn all_starts(alloc: Global, space: &Space, size: u64) -> Result<Vec<Start>, AllocError>
-    requires values { All IsInterval space.now.memory.items }
+    requires values { All IsValues (lists space.now.memory.items) }
     requires few { size_of (seen_space space.now) ≤ 2 ^ 40 }
     requires size { size ≡ size_of (seen_space space.now) }
     ensures { IfOk result (λ ss. map seen ss.items ≡ all_starts (seen_space space.now)) }
@@ -60,7 +60,7 @@ fn all_starts(alloc: Global, space: &Space, size: u64) -> Result<Vec<Start>, All
 
 // The starts of a space that has so many, if they are few.
 fn few_starts(alloc: Global, space: &Space, size: u64) -> Result<Vec<Start>, Stop>
-    requires values { All IsInterval space.now.memory.items }
+    requires values { All IsValues (lists space.now.memory.items) }
     requires few { size_of (seen_space space.now) ≤ 2 ^ 40 }
     requires size { size ≡ size_of (seen_space space.now) }
     ensures ok { IfOk result (λ ss. WritesOut (inr (seen_space space.now)) (map seen ss.items)) }
@@ -80,7 +80,8 @@ fn few_starts(alloc: Global, space: &Space, size: u64) -> Result<Vec<Start>, Sto
 
 // How many starts a space of at most 2^40 has.
 fn size(alloc: Global, space: &Space) -> Result<u64, AllocError>
-    requires { size_of (seen_space space.now) ≤ 2 ^ 40 }
+    requires values { All IsValues (lists space.now.memory.items) }
+    requires few { size_of (seen_space space.now) ≤ 2 ^ 40 }
     ensures { IfOk result (λ n. n ≡ size_of (seen_space space.now)) }
 {
     let size = space.size(alloc)?;
@@ -89,7 +90,7 @@ fn size(alloc: Global, space: &Space) -> Result<u64, AllocError>
 
 // The starts of a space, written out.
 fn written_out(alloc: Global, space: &Space) -> Result<Vec<Start>, Stop>
-    requires values { All IsInterval space.now.memory.items }
+    requires values { All IsValues (lists space.now.memory.items) }
     requires few { size_of (seen_space space.now) ≤ 2 ^ 40 }
     ensures ok { IfOk result (λ ss. WritesOut (inr (seen_space space.now)) (map seen ss.items)) }
     ensures stop { IfErr result (IsStop (LargeStops (inr (seen_space space.now)))) }
