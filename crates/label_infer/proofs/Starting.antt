@@ -145,7 +145,8 @@ module _ (s : Syntax) (valid : IsValid s) (k : Known) (ho : k.order.now ≡ s.or
 
   module _ (cs : List Condition) (ws : List Bool) (vs ls : List Label) (low : LeftSide) (hl : low ≡ fixed s.order.bottom)
       (hc : constraints_in cs ≡ constraints_from k (plan_of s) low low)
-      (hw : ws ≡ replicate (length cs) true) (hv : vs ≡ map (first_of k.order.now.bottom) k.written.items) (hs : ls ≡ first_levels s.order.bottom (plan_of s)) where
+      (hw : ws ≡ replicate (length cs) true) (hv : vs ≡ map (first_of k.order.now.bottom) k.written.items)
+      (hs : ls ≡ first_levels s.order.bottom (plan_of s)) where
     abbrev W : List (Option Label)
     W = written_levels (plan_of s)
 

@@ -65,7 +65,8 @@ of-requires c =
     ho (c.labels.ensures) (c.body-2.ensures.body ∙ ap (λ z. z.plan) hp) c.bottom-bottom.ensures.value c.in_ok-code.ensures.items
     c.in_ok-emit_list.ensures.code c.in_ok-put.ensures in
     let hv = c.variables-variables.ensures.value ∙ ap (λ z. variables z.declarations) hp in
-    let built = built_is p c.put.new.code.items c.variables-variables.result c.in_ok-lattice.lattice.value c.list_extent-extent.result c.body.result.now is hv hx hb
+    let built = built_is p c.put.new.code.items c.variables-variables.result c.in_ok-lattice.lattice.value c.list_extent-extent.result
+    c.body.result.now is hv hx hb
     c.list_extent-extent.ensures in
     let s = ap (λ z. size z) hb in
     let x = c.list_extent-extent.ensures.size in
@@ -88,7 +89,8 @@ returns-clause-image c =
     ho (c.labels.ensures) (c.body-2.ensures.body ∙ ap (λ z. z.plan) hp) c.bottom-bottom.ensures.value c.in_ok-code.ensures.items
     c.in_ok-emit_list.ensures.code c.in_ok-put.ensures in
     let hv = c.variables-variables.ensures.value ∙ ap (λ z. variables z.declarations) hp in
-    let built = built_is p c.put.new.code.items c.variables-variables.result c.in_ok-lattice.lattice.value c.list_extent-extent.result c.body.result.now is hv hx hb
+    let built = built_is p c.put.new.code.items c.variables-variables.result c.in_ok-lattice.lattice.value c.list_extent-extent.result
+    c.body.result.now is hv hx hb
     c.list_extent-extent.ensures in
     c.of.ensures ∙ built
 
@@ -105,6 +107,7 @@ returns-clause-stands c =
     ho (c.labels.ensures) (c.body-2.ensures.body ∙ ap (λ z. z.plan) hp) c.bottom-bottom.ensures.value c.in_ok-code.ensures.items
     c.in_ok-emit_list.ensures.code c.in_ok-put.ensures in
     let hv = c.variables-variables.ensures.value ∙ ap (λ z. variables z.declarations) hp in
-    let built = built_is p c.put.new.code.items c.variables-variables.result c.in_ok-lattice.lattice.value c.list_extent-extent.result c.body.result.now is hv hx hb
+    let built = built_is p c.put.new.code.items c.variables-variables.result c.in_ok-lattice.lattice.value c.list_extent-extent.result
+    c.body.result.now is hv hx hb
     c.list_extent-extent.ensures in
     subst (λ (z : Code). IsImage (order_of p) (labels_of p) z.instrs (bare_of p)) (sym (c.of.ensures ∙ built)) (image_is (order_of p) (labels_of p) (bare_of p))

@@ -14,7 +14,8 @@ loop-piece-preserved c =
     let ws = map (λ w. w.now) c.args.pieces.now in
     let lt : k < length ws = subst (λ n. k < n) (sym (length-map c.args.pieces.now (λ w. w.now))) c.loop-piece-test.true in
     let at = c.as_bytes.ensures.value ∙ sym (get_or-map (λ w. w.now) c.args.pieces.now k _ c.as_bytes.result.now c.loop-piece-test.true) in
-    let more = item_more ws k c.as_bytes.result.now is lt at c.loop-piece.invariant.so_far c.in-Some.item (c.in-Some.ensures.value ∙ ap item_of c.trim.ensures) in
+    let more = item_more ws k c.as_bytes.result.now is lt at c.loop-piece.invariant.so_far c.in-Some.item
+    (c.in-Some.ensures.value ∙ ap item_of c.trim.ensures) in
     let pushed = c.in_ok-push.ensures.items in
     let long = c.loop-piece.invariant.long in
     record {

@@ -13,7 +13,8 @@ items-requires c =
 
 pub returns-clause-ok : goal.returns-clause-ok
 returns-clause-ok c =
-    subst (λ ws. IfOk c.items.result (λ is. items_of ws ≡ Some is.items)) (ap (map (λ w. w.now)) c.deref.ensures.value ∙ c.in_ok-parts.ensures) c.items.ensures.ok
+    subst (λ ws. IfOk c.items.result (λ is. items_of ws ≡ Some is.items)) (ap (map (λ w. w.now)) c.deref.ensures.value ∙ c.in_ok-parts.ensures)
+    c.items.ensures.ok
 
 pub returns-clause-refused : goal.returns-clause-refused
 returns-clause-refused c =

@@ -39,7 +39,8 @@ loop-i-preserved c =
     let lt = inside c.args.memory.now c.loop-i.i c.loop-i-test.true in
     let wide = choice_wide (lists c.args.memory.now) c.args.choice.now c.requires.choice in
     let kept : to_z w64 (of_z w64 c.value_in.result) ≡ c.value_in.result = grind (arith, to_z-of_z) in
-    one_chosen (lists c.args.memory.now) c.args.choice.now c.loop-i.i c.loop-i.values.items [] c.push.new.self.items c.value_in.result lt (omega (arith, wide, lt))
+    one_chosen (lists c.args.memory.now) c.args.choice.now c.loop-i.i c.loop-i.values.items [] c.push.new.self.items c.value_in.result lt
+    (omega (arith, wide, lt))
     (c.value_in.ensures ∙ ap (λ v. value_in v (get_or c.args.choice.now c.loop-i.i 0))
     (sym (held c.args.memory.now c.loop-i.i c.index-memory-i.result c.deref.result.now c.loop-i-test.true c.index-memory-i.is c.deref.ensures.value)))
     (c.in_ok-push.ensures.items ∙ ap (λ z. c.loop-i.values.items ++ z ∷ []) kept) c.loop-i.invariant
