@@ -12,7 +12,7 @@ const only = (value) => ({ items: [{ first: value, count: 1n }], count: 1n });
 
 // The whole numbers from one to another one, of a text A or A..B; null where it is neither.
 function itemOf(text) {
-  const found = ITEM.exec(text.trim());
+  const found = ITEM.exec(text.replace(/^ +| +$/g, ''));
   if (!found) return null;
   const first = BigInt(found[1]), last = BigInt(found[2] ?? found[1]);
   return first > last ? null : { first, count: last - first + 1n };
@@ -22,7 +22,7 @@ function itemOf(text) {
 // where it is neither.
 function choiceOf(value) {
   if (typeof value === 'bigint') return only(value);
-  const items = typeof value === 'string' ? value.split(',').map(itemOf) : [null];
+  const isList = typeof value === 'string' && !/^ | $/.test(value), items = isList ? value.split(',').map(itemOf) : [null];
   return items.includes(null) ? null : { items, count: sum(items) };
 }
 
@@ -88,7 +88,7 @@ export const rangeText = (value) => [value].flat().map(choiceText).join(' ');
 /** The values that a cell's text says: numbers and A..B with commas between them, or for an array such texts with
     spaces between them; null where it says none. */
 export function rangesOf(text, isArray) {
-  const parts = isArray ? text.trim().split(/,?\s+/).filter(Boolean) : [text];
+  const parts = isArray ? text.trim().split(/,?\s+/).filter(Boolean) : [text.trim()];
   const all = parts.map(choiceOf);
   if (all.length === 0 || all.includes(null)) return null;
   return isArray ? all : all[0];
