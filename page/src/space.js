@@ -22,7 +22,8 @@ function itemOf(text) {
 // where it is neither.
 function choiceOf(value) {
   if (typeof value === 'bigint') return only(value);
-  const isList = typeof value === 'string' && !/^ | $/.test(value), items = isList ? value.split(',').map(itemOf) : [null];
+  const isList = typeof value === 'string' && !/^ | $/.test(value);
+  const items = isList ? value.split(',').map(itemOf) : [null];
   return items.includes(null) ? null : { items, count: sum(items) };
 }
 
