@@ -8,6 +8,7 @@ import tomllib
 from refusals import Stop
 
 MOST = 2**40
+MOST_LISTED = 4096
 RANGE = re.compile(r"([0-9]+)\.\.([0-9]+)")
 
 
@@ -70,6 +71,12 @@ class Space:
             number, digit = divmod(number, len(place))
             memory.append(place[digit])
         return memory[::-1], self.touches
+
+    def listed(self):
+        """All starts, for a question that takes a list of them."""
+        if self.size() > MOST_LISTED:
+            raise fault(f"too many starts: {self.size()}, at most {MOST_LISTED}")
+        return [self.start(number) for number in range(self.size())]
 
 
 def space_in(document, program):

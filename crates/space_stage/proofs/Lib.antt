@@ -1,2 +1,4 @@
 pub mod Stops
 pub mod Once
+pub mod Listing
+pub mod Written

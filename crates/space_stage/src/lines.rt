@@ -1,7 +1,7 @@
-//! The line of a file that is read as one of a space, and refused.
+//! The lines of a file that is read as one of a space, and refused.
 
 ghost use Rattle.std.specs.Prelude.{◌≡◌, ◌≤◌, length};
-ghost use Rattle.space_stage.specs.Lines.{space_fault_line};
+ghost use Rattle.space_stage.specs.Lines.{many_starts_line, space_fault_line};
 
 use space_file::fault::SpaceFault;
 use tim_base::line::Line;
@@ -31,4 +31,14 @@ pub(crate) fn space_fault(fault: SpaceFault) -> Line
         SpaceFault::TooMany => words(b"space: too many starts\n"),
         SpaceFault::Memory => memory(),
     }
+}
+
+/// The line of a space of so many starts where they are to be written out.
+pub(crate) fn many_starts(size: u64) -> Line
+    ensures { result ≡ many_starts_line size }
+{
+    let mut line = words(b"space: too many starts: ");
+    line.put_unsigned(size);
+    line.put_text(b", at most 4096\n");
+    line
 }
