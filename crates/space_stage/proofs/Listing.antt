@@ -1,5 +1,5 @@
 -- A file gives one list of starts, written out, and what stops that.
-use Rattle.std.proofs.Common.{◌≡◌, ◌∙◌, ◌≤◌, ◌<◌, sym, subst, cc, arith, ℕ, List, Option, inl, inr}
+use Rattle.std.proofs.Common.{◌≡◌, ◌∙◌, sym, subst, arith, ℕ, List, Option, inl, inr}
 use Rattle.mit_syntax.specs.Program.{Syntax}
 use Rattle.start_file.specs.Starts.{StartValue}
 use Rattle.tool_texts.specs.declared.status.Status.{Status}

@@ -1,5 +1,5 @@
 -- The starts of a space, written out: how many there are, and that each is for the program.
-use Rattle.std.proofs.Common.{◌≡◌, ◌∙◌, ◌<◌, ◌≤◌, ◌+◌, ◌*◌, refl, sym, ap, ap₂, subst, arith, ℕ, zero, suc, List, [], ◌∷◌, ◌++◌, All, length, Option}
+use Rattle.std.proofs.Common.{◌≡◌, ◌∙◌, ◌<◌, ◌+◌, ◌*◌, refl, sym, ap, ap₂, subst, arith, ℕ, zero, suc, List, [], ◌∷◌, ◌++◌, All, length, Option}
 use Rattle.std.proofs.Common.{inl, inr, add-one}
 use Rattle.mit_syntax.specs.Program.{Syntax}
 use Rattle.start_file.specs.Starts.{StartValue, IsFor}
@@ -31,12 +31,17 @@ long : (s : SpaceValue) (n c : ℕ) → length (starts_from s n c) ≡ c
 long s n zero = refl
 long s n (suc c) = ap suc (long s (n + 1) c)
 
+product : (a b : ℕ) → 0 < a → 0 < b → 0 < a * b
+product zero b h k = absurd (omega (arith, h))
+product (suc a) zero h k = absurd (omega (arith, k))
+product (suc a) (suc b) h k = omega arith
+
 some_size : (is : List Interval) → All IsInterval is → 0 < size (counts is)
 some_size [] h = omega arith
 some_size (i ∷ is) h =
     let first = (h 0 i (omega arith)).some in
     let rest = some_size is (λ k d lt. h (suc k) d (omega (arith, lt))) in
-    grind (arith, first, rest)
+    product i.count (size (counts is)) first rest
 
 -- ---- each is for the program
 
