@@ -11,6 +11,7 @@ from refusals import Stop
 MOST = 2**40
 ITEM = re.compile(r"(-?[0-9]+)(?:\.\.(-?[0-9]+))?", re.ASCII)
 COMMA = re.compile(" *, *")
+MOST_LISTED = 4096
 
 
 def fault(what):
@@ -104,6 +105,12 @@ class Space:
             number, digit = divmod(number, place.count)
             memory.append(place.at(digit))
         return memory[::-1], self.touches
+
+    def listed(self):
+        """All starts, for a question that takes a list of them."""
+        if self.size() > MOST_LISTED:
+            raise fault(f"too many starts: {self.size()}, at most {MOST_LISTED}")
+        return [self.start(number) for number in range(self.size())]
 
 
 def space_in(document, program):

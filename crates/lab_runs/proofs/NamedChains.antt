@@ -9,13 +9,15 @@ use Rattle.code_lower.specs.Lowered.{lowered}
 use Rattle.start_file.specs.Starts.{StartValue}
 use Rattle.tool_texts.specs.declared.status.Status.{Status}
 use Rattle.tool_texts.specs.declared.status.Status.TheVariants as status
-use Rattle.tool_stages.specs.Stages.{Then, Reads, ProgramStops, Observes, Types, TypeStops, HasImage, ImageStops, StartsAre, StartStops}
+use Rattle.tool_stages.specs.Stages.{Then, Reads, ProgramStops, Observes, Types, TypeStops, HasImage, ImageStops}
 use Rattle.tool_stages.specs.Content.{Content, IsKnown}
 use Rattle.tool_stages.specs.Goes.{CanCompile}
-use Rattle.tool_stages.proofs.ChainLemmas.{reads_one, lower_one, lower_goes, starts_done}
-use Rattle.tool_stages.proofs.GoesLemmas.{then_goes_from, program_goes, starts_go}
+use Rattle.tool_stages.proofs.ChainLemmas.{reads_one, lower_one, lower_goes}
+use Rattle.tool_stages.proofs.GoesLemmas.{then_goes_from, program_goes}
 use Rattle.tool_stages.proofs.OneFirst.{one_observer}
-use Rattle.tool_stages.proofs.OneLemmas.{Same, then_one, one_program, one_list_of_starts, one_start_stop}
+use Rattle.tool_stages.proofs.OneLemmas.{Same, then_one, one_program}
+use Rattle.space_stage.specs.Listed.{IsListed, ListedStops}
+use Rattle.space_stage.proofs.Listing.{one_list, listed_go, one_listed_stop, listed_done, listed_no_fault}
 use Rattle.lab_runs.specs.Labels.{UnnamedStops, observer_option, NamesAndCompiles, NamesAndPrepares}
 use Rattle.lab_runs.proofs.NameLemmas.{one_unnamed_stop, unnamed_goes}
 
@@ -44,13 +46,13 @@ module _ (s : Status) (t : List ℕ) where
       (Can : LabelledProgram → Option Label → List StartValue → Type 0)
       (Next : Syntax → LabelledProgram → Option Label → Code → List StartValue → Status → List ℕ → Type 0)
       → (files file → ⊥) → IsKnown (content' file) → (Rose → ⊥) → IsKnown c
-      → CanCompile (content' file) (Some observer) (λ p q o. (ss : List StartValue) × StartsAre c p ss × Can q o ss)
+      → CanCompile (content' file) (Some observer) (λ p q o. (ss : List StartValue) × IsListed c p ss × Can q o ss)
       → ((p : Syntax) (q : LabelledProgram) (o : Option Label) (code : Code) (ss : List StartValue) → Can q o ss → Next p q o code ss s t → s ≡ status.Done)
       → NamesAndPrepares files content' file observer Rose c Next s t → s ≡ status.Done
   prepared_done files content' file observer Rose c Can Next n known m kept can f h =
-      compiles_go files content' file (Some observer) (λ p q o. (ss : List StartValue) × StartsAre c p ss × Can q o ss)
-      (λ p q o code. Then (StartStops Rose c p) (StartsAre c p) (λ ss. Next p q o code ss)) s t n known can
-      (λ p q o code image goes. starts_done s t Rose c p (λ ss. Next p q o code ss) goes.0 m kept goes.1 (f p q o code goes.0 goes.2)) h
+      compiles_go files content' file (Some observer) (λ p q o. (ss : List StartValue) × IsListed c p ss × Can q o ss)
+      (λ p q o code. Then (ListedStops Rose c p) (IsListed c p) (λ ss. Next p q o code ss)) s t n known can
+      (λ p q o code image goes. listed_done c kept p s t Rose (λ ss. Next p q o code ss) goes.0 m goes.1 (f p q o code goes.0 goes.2)) h
 
 -- ---- all give one answer
 
@@ -77,11 +79,11 @@ module _ (s u : Status) (t x : List ℕ) where
       → Next p q o code ss u x → Same s u t x)
       → NamesAndPrepares Rises content file observer Rose c Next s t → NamesAndPrepares Rises content file observer Rose c Next u x → Same s u t x
   prepares_one Rises content file observer Rose c Next n known m kept next =
-      compiles_one Rises content file (Some observer) (λ p q o code. Then (StartStops Rose c p) (StartsAre c p) (λ ss. Next p q o code ss)) n known
+      compiles_one Rises content file (Some observer) (λ p q o code. Then (ListedStops Rose c p) (IsListed c p) (λ ss. Next p q o code ss)) n known
       (λ p q o code.
-      then_one (StartStops Rose c p) (StartsAre c p) (λ ss. Next p q o code ss) s u t x (one_start_stop c kept p Rose s u t x m)
-      (λ ss v y are. starts_go Rose c p ss v y m kept are)
-      (one_list_of_starts c kept p) (λ ss are. next p q o code ss))
+      then_one (ListedStops Rose c p) (IsListed c p) (λ ss. Next p q o code ss) s u t x (one_listed_stop c kept p Rose s u t x m)
+      (λ ss v y are. listed_go c kept p Rose ss v y m are)
+      (one_list c kept p) (λ ss are. next p q o code ss))
 
 -- ---- no stop is a write fault
 
@@ -100,10 +102,10 @@ pub prepares_no_fault : (Rises : List ℕ → Type 0) (content : Content) (file 
     → ((p : Syntax) (q : LabelledProgram) (o : Option Label) (code : Code) (ss : List StartValue) → Next p q o code ss status.WriteFault t → ⊥)
     → NamesAndPrepares Rises content file observer R held Next status.WriteFault t → ⊥
 prepares_no_fault Rises content file observer R held Next t f =
-    compiles_no_fault Rises content file (Some observer) (λ p q o code. Then (StartStops R held p) (StartsAre held p) (λ ss. Next p q o code ss)) t
+    compiles_no_fault Rises content file (Some observer) (λ p q o code. Then (ListedStops R held p) (IsListed held p) (λ ss. Next p q o code ss)) t
     (λ p q o code. after p q o code)
   where
     after : (p : Syntax) (q : LabelledProgram) (o : Option Label) (code : Code)
-        → Then (StartStops R held p) (StartsAre held p) (λ ss. Next p q o code ss) status.WriteFault t → ⊥
-    after p q o code (inl h) = h
+        → Then (ListedStops R held p) (IsListed held p) (λ ss. Next p q o code ss) status.WriteFault t → ⊥
+    after p q o code (inl h) = listed_no_fault R held p t h
     after p q o code (inr h) = f p q o code h.0 h.2

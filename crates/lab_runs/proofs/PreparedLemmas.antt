@@ -1,5 +1,5 @@
 -- What questions about an accepted program begin with, and what stops them before.
-use Rattle.std.proofs.Common.{◌≡◌, ℕ, List, Option, Some, inl, inr, subst, ◌∙◌}
+use Rattle.std.proofs.Common.{◌≡◌, ◌<◌, ℕ, List, Option, Some, inl, inr, sym, subst, ◌∙◌}
 use Rattle.label_lattice.specs.declared.label.Label.{Label}
 use Rattle.label_lattice.specs.Order.{Order}
 use Rattle.mit_syntax.specs.Program.{Syntax}
@@ -11,11 +11,12 @@ use Rattle.tool_texts.specs.declared.status.Status.TheVariants as status
 use Rattle.tool_texts.specs.declared.stop.Stop.{Stop}
 use Rattle.tool_texts.specs.Ends.{IsStop, status_of, stop_text}
 use Rattle.tool_texts.proofs.EndLemmas.{broke_map}
-use Rattle.tool_stages.specs.Stages.{Then, StartStops, StartsAre, Observes, Reads, Types, ImageStops}
+use Rattle.tool_stages.specs.Stages.{Then, Observes, Reads, Types, ImageStops}
 use Rattle.tool_stages.specs.Content.{Content}
-use Rattle.tool_stages.specs.Begins.{NoMore, HasCompiled, IsPrepared}
-use Rattle.tool_stages.proofs.StopLemmas.{start_rise}
-use Rattle.lab_runs.specs.Labels.{NamesAndCompiles, NamesAndPrepares, NamedProgramStops, NamedCompileStops, NamedPrepareStops}
+use Rattle.tool_stages.specs.Begins.{NoMore, HasCompiled, CanAudit}
+use Rattle.space_stage.specs.Listed.{IsListed, ListedStops, AreFitting}
+use Rattle.space_stage.proofs.Listing.{listed_rise}
+use Rattle.lab_runs.specs.Labels.{NamesAndCompiles, NamesAndPrepares, HasPrepared, NamedProgramStops, NamedCompileStops, NamedPrepareStops}
 
 -- ---- an image
 
@@ -60,7 +61,7 @@ compiled_goes Rises content file observer q o code Next s t h n = inr (h.program
 
 abbrev starts_next : Type 0 → Option (Option (List ℕ)) → (Syntax → LabelledProgram → Option Label → Code → List StartValue → Status → List ℕ → Type 0) → Syntax
     → LabelledProgram → Option Label → Code → Status → List ℕ → Type 0
-starts_next R starts Next p q o code = Then (StartStops R starts p) (StartsAre starts p) (λ ss. Next p q o code ss)
+starts_next R starts Next p q o code = Then (ListedStops R starts p) (IsListed starts p) (λ ss. Next p q o code ss)
 
 -- what stops the image stops the question
 pub compile_stops_audit : (Rises : List ℕ → Type 0) (content : Content) (file observer : List ℕ) (R : Type 0) (starts : Option (Option (List ℕ))) (e : Stop)
@@ -74,14 +75,37 @@ compile_stops_audit Rises content file observer R starts e h =
 pub starts_stop_audit : (Rises : List ℕ → Type 0) (content : Content) (file observer : List ℕ) (R R' : Type 0) (held starts : Option (Option (List ℕ)))
     (q : LabelledProgram) (o : Option Label) (code : Code) (p : Syntax) (e : Stop)
     → (R → R') → held ≡ starts → p ≡ q.program → HasCompiled content file (Some observer) q o code
-    → IsStop (StartStops R held p) e → IsStop (NamedPrepareStops Rises content file observer R' starts) e
+    → IsStop (ListedStops R held p) e → IsStop (NamedPrepareStops Rises content file observer R' starts) e
 starts_stop_audit Rises content file observer R R' held starts q o code p e f same is h stop =
-    let at : IsStop (StartStops R starts h.program) e =
-    subst (λ (z : Syntax). IsStop (StartStops R starts z) e) (is ∙ h.types.program)
-    (subst (λ (z : Option (Option (List ℕ))). IsStop (StartStops R z p) e) same stop) in
-    broke_map (StartStops R starts h.program) (NamedPrepareStops Rises content file observer R' starts) (status_of e) (stop_text e)
+    let at : IsStop (ListedStops R starts h.program) e =
+    subst (λ (z : Syntax). IsStop (ListedStops R starts z) e) (is ∙ h.types.program)
+    (subst (λ (z : Option (Option (List ℕ))). IsStop (ListedStops R z p) e) same stop) in
+    broke_map (ListedStops R starts h.program) (NamedPrepareStops Rises content file observer R' starts) (status_of e) (stop_text e)
     (λ k. compiled_goes Rises content file (Some observer) q o code (starts_next R' starts (λ p q o code ss. NoMore)) (status_of e) (stop_text e) h
-    (inl (start_rise R R' starts h.program (status_of e) (stop_text e) f k))) at
+    (inl (listed_rise R R' starts h.program (status_of e) (stop_text e) f k))) at
+
+pub prepared_of : (content : Content) (file observer : List ℕ) (held starts : Option (Option (List ℕ))) (q : LabelledProgram) (o : Option Label) (l : Label)
+    (code : Code) (p : Syntax) (ss : List StartValue)
+    → o ≡ Some l → held ≡ starts → p ≡ q.program → HasCompiled content file (Some observer) q o code → IsListed held p ss
+    → HasPrepared content file observer starts q l code ss
+prepared_of content file observer held starts q o l code p ss names same is h are =
+    record {
+      compiled = subst (λ (z : Option Label). HasCompiled content file (Some observer) q z code) names h;
+      starts = subst (λ (z : Syntax). IsListed starts z ss) is (subst (λ (z : Option (Option (List ℕ))). IsListed z p ss) same are);
+    }
+
+pub audit_fits : (content : Content) (file observer : List ℕ) (starts : Option (Option (List ℕ))) (q : LabelledProgram) (l : Label) (code : Code)
+    (p : Syntax) (ss : List StartValue)
+    → HasPrepared content file observer starts q l code ss → p ≡ q.program → AreFitting p ss → CanAudit q l code ss
+audit_fits content file observer starts q l code p ss h is fits =
+    let at : AreFitting q.program ss = subst (λ (z : Syntax). AreFitting z ss) is fits in
+    record {
+      image = h.compiled.image.0;
+      observer = subst (λ (z : Syntax). l.number < z.order.size) (sym h.compiled.types.program) h.compiled.observes.0;
+      some = at.some;
+      few = at.few;
+      starts = at.starts;
+    }
 
 -- ---- what comes after
 
@@ -101,12 +125,12 @@ prepares_map Rises content file observer R starts Next Next' s t f =
 pub prepared_goes : (Rises : List ℕ → Type 0) (content : Content) (file observer : List ℕ) (R : Type 0) (starts : Option (Option (List ℕ)))
     (q : LabelledProgram) (l : Label) (code : Code) (ss : List StartValue)
     (Next : Syntax → LabelledProgram → Option Label → Code → List StartValue → Status → List ℕ → Type 0) (s : Status) (t : List ℕ)
-    → IsPrepared content file observer starts q l code ss → Next q.program q (Some l) code ss s t
+    → HasPrepared content file observer starts q l code ss → Next q.program q (Some l) code ss s t
     → NamesAndPrepares Rises content file observer R starts Next s t
 prepared_goes Rises content file observer R starts q l code ss Next s t h n =
     let c = h.compiled in
     let at : Next c.program q (Some l) code ss s t = subst (λ (z : Syntax). Next z q (Some l) code ss s t) c.types.program n in
-    let are : StartsAre starts c.program ss = subst (λ (z : Syntax). StartsAre starts z ss) c.types.program h.starts in
+    let are : IsListed starts c.program ss = subst (λ (z : Syntax). IsListed starts z ss) c.types.program h.starts in
     compiled_goes Rises content file (Some observer) q (Some l) code (starts_next R starts Next) s t c (inr (ss, are, at))
 
 -- what stops before the question's own part stops it
@@ -122,7 +146,7 @@ prepare_stops Rises content file observer R starts Next e h =
 pub audit_stops : (Rises : List ℕ → Type 0) (content : Content) (file observer : List ℕ) (R : Type 0) (starts : Option (Option (List ℕ))) (q : LabelledProgram)
     (l : Label) (code : Code) (ss : List StartValue) (Next : Syntax → LabelledProgram → Option Label → Code → List StartValue → Status → List ℕ → Type 0)
     (e : Stop)
-    → IsPrepared content file observer starts q l code ss → IsStop (Next q.program q (Some l) code ss) e
+    → HasPrepared content file observer starts q l code ss → IsStop (Next q.program q (Some l) code ss) e
     → IsStop (NamesAndPrepares Rises content file observer R starts Next) e
 audit_stops Rises content file observer R starts q l code ss Next e h stop =
     broke_map (Next q.program q (Some l) code ss) (NamesAndPrepares Rises content file observer R starts Next) (status_of e) (stop_text e)

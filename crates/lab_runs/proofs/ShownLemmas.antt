@@ -15,19 +15,18 @@ use Rattle.tool_texts.specs.declared.status.Status.TheVariants as status
 use Rattle.tool_texts.specs.declared.stop.Stop.{Stop}
 use Rattle.tool_texts.specs.Ends.{EndsBy, IsStop, status_of, stop_text}
 use Rattle.tool_texts.proofs.EndLemmas.{broke_map, ends_done}
-use Rattle.tool_stages.specs.Stages.{Then, Reads, ProgramStops, Observes, HasImage, ImageStops, StartsAre, StartStops}
+use Rattle.tool_stages.specs.Stages.{Then, Reads, ProgramStops, Observes, HasImage, ImageStops}
 use Rattle.tool_stages.specs.Content.{Content, IsKnown}
 use Rattle.tool_stages.specs.Begins.{NoMore}
 use Rattle.tool_stages.specs.Accepted.{is_past_typing, IsAccepted}
-use Rattle.tool_stages.proofs.ChainLemmas.{reads_one, starts_done}
-use Rattle.tool_stages.proofs.GoesLemmas.{then_goes, then_goes_from, program_goes, typing_goes, image_goes, starts_go}
+use Rattle.tool_stages.proofs.ChainLemmas.{reads_one}
+use Rattle.tool_stages.proofs.GoesLemmas.{then_goes, then_goes_from, program_goes, typing_goes, image_goes}
 use Rattle.tool_stages.proofs.OneFirst.{one_observer}
 use Rattle.tool_stages.proofs.OneLemmas.{Same, then_one, one_program, one_typed, typed_or_not, one_type_stop, one_image_stop, image_or_not}
-use Rattle.tool_stages.proofs.OneLemmas.{one_start_stop, one_list_of_starts}
 use Rattle.tool_stages.proofs.RunLemmas.{observer_below}
 use Rattle.tool_stages.proofs.SoundLemmas.{least_made}
-use Rattle.tool_stages.proofs.StartLemmas.{count_given}
-use Rattle.tool_stages.proofs.StopLemmas.{start_rise}
+use Rattle.space_stage.specs.Listed.{IsListed, ListedStops, AreFitting}
+use Rattle.space_stage.proofs.Listing.{one_list, listed_go, one_listed_stop, listed_done, listed_rise}
 use Rattle.lab_runs.specs.CanRun.{CanRun}
 use Rattle.lab_runs.specs.Labels.{UnnamedStops, observer_option, NamedCompileStops}
 use Rattle.lab_runs.specs.Shown.{OfRuns, Shown, head_line, RunsAccepted, RunsRefused, Shows, ShowStops, ShowsOf, ShowsFrom, ShowsRuns}
@@ -134,7 +133,7 @@ module _ (refused : Bool) (observer : Option (List ℕ)) where
 
     module _ (starts : List ℕ) where
       abbrev stop_next : Syntax → Shown → Option Label → Code → Status → List ℕ → Type 0
-      stop_next p x o code = Then (StartStops (Rises starts) (content starts) p) (StartsAre (content starts) p) (λ ss. NoMore)
+      stop_next p x o code = Then (ListedStops (Rises starts) (content starts) p) (IsListed (content starts) p) (λ ss. NoMore)
 
       -- what stops before the starts stops the runs
       pub file_stops_runs : (e : Stop) → IsStop (FileShowStops refused Rises content file observer) e
@@ -146,37 +145,37 @@ module _ (refused : Bool) (observer : Option (List ℕ)) where
       -- the starts stop the runs
       pub starts_stop_runs : (R : Type 0) (held : Option (Option (List ℕ))) (x : Shown) (o : Option Label) (code : Code) (p : Syntax) (e : Stop)
           → (R → Rises starts) → held ≡ content starts → p ≡ x.labelled.program → HasShown refused content file observer x o code
-          → IsStop (StartStops R held p) e → IsStop (RunsStop refused Rises content file starts observer) e
+          → IsStop (ListedStops R held p) e → IsStop (RunsStop refused Rises content file starts observer) e
       starts_stop_runs R held x o code p e f same is h stop =
-          let at : IsStop (StartStops R (content starts) h.program) e =
-          subst (λ (z : Syntax). IsStop (StartStops R (content starts) z) e) (is ∙ shows_program refused h.program x h.shown.shows)
-          (subst (λ (z : Option (Option (List ℕ))). IsStop (StartStops R z p) e) same stop) in
-          broke_map (StartStops R (content starts) h.program) (RunsStop refused Rises content file starts observer) (status_of e) (stop_text e)
+          let at : IsStop (ListedStops R (content starts) h.program) e =
+          subst (λ (z : Syntax). IsStop (ListedStops R (content starts) z) e) (is ∙ shows_program refused h.program x h.shown.shows)
+          (subst (λ (z : Option (Option (List ℕ))). IsStop (ListedStops R z p) e) same stop) in
+          broke_map (ListedStops R (content starts) h.program) (RunsStop refused Rises content file starts observer) (status_of e) (stop_text e)
           (λ k. from_goes x o code stop_next (status_of e) (stop_text e) h
-          (inl (start_rise R (Rises starts) (content starts) h.program (status_of e) (stop_text e) f k))) at
+          (inl (listed_rise R (Rises starts) (content starts) h.program (status_of e) (stop_text e) f k))) at
 
 -- ---- what runs begin with
 
 module _ (refused : Bool) (content : Content) (file : List ℕ) (observer : Option (List ℕ)) (x : Shown) (o : Option Label) (code : Code) where
   pub runs_of : (starts : List ℕ) (held : Option (Option (List ℕ))) (p : Syntax) (ss : List StartValue) → held ≡ content starts → p ≡ x.labelled.program
-      → HasShown refused content file observer x o code → StartsAre held p ss → HasRuns refused content file starts observer x o code ss
+      → HasShown refused content file observer x o code → IsListed held p ss → HasRuns refused content file starts observer x o code ss
   runs_of starts held p ss same is h are =
       record {
         has = h;
-        given = subst (λ (z : Syntax). StartsAre (content starts) z ss) (is ∙ shows_program refused h.program x h.shown.shows)
-            (subst (λ (z : Option (Option (List ℕ))). StartsAre z p ss) same are);
+        given = subst (λ (z : Syntax). IsListed (content starts) z ss) (is ∙ shows_program refused h.program x h.shown.shows)
+            (subst (λ (z : Option (Option (List ℕ))). IsListed z p ss) same are);
       }
 
   pub runs_fit : (starts : List ℕ) (p : Syntax) (ss : List StartValue) → HasRuns refused content file starts observer x o code ss → p ≡ x.labelled.program
-      → All (IsFor p) ss → CanRun x.labelled o code ss
+      → AreFitting p ss → CanRun x.labelled o code ss
   runs_fit starts p ss h is fits =
       let at = shows_program refused h.has.program x h.has.shown.shows in
       record {
         image = h.has.shown.image.0;
         observer = subst (λ (z : Syntax). IfSome o (λ l. l.number < z.order.size)) (sym at)
             (observer_below h.has.program.order observer o h.has.shown.observes);
-        few = (count_given (content starts) h.has.program ss h.given).1;
-        starts = subst (λ (z : Syntax). All (IsFor z) ss) is fits;
+        few = fits.few;
+        starts = subst (λ (z : Syntax). All (IsFor z) ss) is fits.starts;
       }
 
   -- what runs without the flag is accepted
@@ -271,7 +270,7 @@ module _ (refused : Bool) (Rises : List ℕ → Type 0) (content : Content) (fil
 
   abbrev text_next : Syntax → Shown → Option Label → Code → Status → List ℕ → Type 0
   text_next p x o code =
-      Then (StartStops (Rises starts) (content starts) p) (StartsAre (content starts) p) (λ ss. told_next x o code ss)
+      Then (ListedStops (Rises starts) (content starts) p) (IsListed (content starts) p) (λ ss. told_next x o code ss)
 
   -- what stops the runs stops the command
   pub stops_command : (s : Status) (t : List ℕ) → RunsStop refused Rises content file starts observer s t
@@ -296,16 +295,16 @@ module _ (refused : Bool) (Rises : List ℕ → Type 0) (content : Content) (fil
       → ShowsRuns refused Rises content file starts observer IsText s t → ShowsRuns refused Rises content file starts observer IsText u x → Same s u t x
   one_shows s u t x n m known kept one =
       from_one refused Rises content file observer text_next s u t x n known (λ p r o code.
-      then_one (StartStops (Rises starts) (content starts) p) (StartsAre (content starts) p) (λ ss. told_next r o code ss) s u t x
-      (one_start_stop (content starts) kept p (Rises starts) s u t x m) (λ ss v y are. starts_go (Rises starts) (content starts) p ss v y m kept are)
-      (one_list_of_starts (content starts) kept p) (λ ss are h k.
+      then_one (ListedStops (Rises starts) (content starts) p) (IsListed (content starts) p) (λ ss. told_next r o code ss) s u t x
+      (one_listed_stop (content starts) kept p (Rises starts) s u t x m) (λ ss v y are. listed_go (content starts) kept p (Rises starts) ss v y m are)
+      (one_list (content starts) kept p) (λ ss are h k.
       (h.0 ∙ sym k.0, h.3 ∙ ap (λ z. r.head ++ z) (one r.labelled o code ss h.1 k.1 h.2 k.2) ∙ sym k.3)))
 
   show_done : (s : Status) (t : List ℕ) → CanShow refused content file starts observer → (Rises file → ⊥) → (Rises starts → ⊥)
       → ShowsRuns refused Rises content file starts observer IsText s t → s ≡ status.Done
   show_done s t can n m =
       from_done refused Rises content file observer text_next s t can.program can.observed n can.known can.reads can.observes can.runs can.short
-      (λ x code shows. starts_done s t (Rises starts) (content starts) can.program (λ ss. told_next x can.observed code ss) can.all m can.known_starts can.given
+      (λ x code shows. listed_done (content starts) can.known_starts can.program s t (Rises starts) (λ ss. told_next x can.observed code ss) can.all m can.given
       (λ k. k.0))
 
   -- a call that can be done is done

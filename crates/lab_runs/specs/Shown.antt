@@ -11,10 +11,11 @@ use Rattle.start_file.specs.Starts.{StartValue}
 use Rattle.tool_texts.specs.declared.status.Status.{Status}
 use Rattle.tool_texts.specs.declared.status.Status.TheVariants as status
 use Rattle.tool_stages.specs.Stages.{Then, Reads, ProgramStops, Observes, Types, HasNoType, TypeStops}
-use Rattle.tool_stages.specs.Stages.{HasImage, ImageStops, StartsAre, StartStops}
+use Rattle.tool_stages.specs.Stages.{HasImage, ImageStops}
 use Rattle.tool_stages.specs.Content.{Content, IsKnown}
 use Rattle.tool_stages.specs.Begins.{NoMore}
 use Rattle.tool_stages.specs.Goes.{IsTypable}
+use Rattle.space_stage.specs.Listed.{IsListed, ListedStops}
 use Rattle.lab_runs.specs.Labels.{UnnamedStops, observer_option}
 
 -- what is said of a text, by a program, the observer that is named, an image, and starts
@@ -73,7 +74,7 @@ ShowsFrom refused Rises content file observer Next =
 abbrev pub ShowsRuns : Bool → (List ℕ → Type 0) → Content → List ℕ → List ℕ → Option (List ℕ) → OfRuns → Status → List ℕ → Type 0
 ShowsRuns refused Rises content file starts observer IsText =
     ShowsFrom refused Rises content file observer (λ p x o code.
-    Then (StartStops (Rises starts) (content starts) p) (StartsAre (content starts) p) (λ ss s t.
+    Then (ListedStops (Rises starts) (content starts) p) (IsListed (content starts) p) (λ ss s t.
     (s ≡ status.Done) × (u : List ℕ) × IsText x.labelled o code ss u × (t ≡ x.head ++ u)))
 
 -- ---- what stages leave to the rest of a command
@@ -95,7 +96,7 @@ pub record HasShown (refused : Bool) (content : Content) (file : List ℕ) (obse
 pub record HasRuns (refused : Bool) (content : Content) (file starts : List ℕ) (observer : Option (List ℕ)) (x : Shown) (o : Option Label)
     (code : Code) (ss : List StartValue) : Type 0 where
   pub has : HasShown refused content file observer x o code
-  pub given : StartsAre (content starts) has.program ss
+  pub given : IsListed (content starts) has.program ss
 
 -- ---- what stops a command before that
 
@@ -108,7 +109,7 @@ FileShowStops refused Rises content file observer = ShowsFrom refused Rises cont
 abbrev pub RunsStop : Bool → (List ℕ → Type 0) → Content → List ℕ → List ℕ → Option (List ℕ) → Status → List ℕ → Type 0
 RunsStop refused Rises content file starts observer =
     ShowsFrom refused Rises content file observer (λ p x o code.
-    Then (StartStops (Rises starts) (content starts) p) (StartsAre (content starts) p) (λ ss. NoMore))
+    Then (ListedStops (Rises starts) (content starts) p) (IsListed (content starts) p) (λ ss. NoMore))
 
 -- ---- how a command can end
 
@@ -144,4 +145,4 @@ pub record CanShow (refused : Bool) (content : Content) (file starts : List ℕ)
   pub runs : RunsAs refused program
   pub short : (x : Shown) → Shows refused program x → length (lowered x.labelled).instrs ≤ 200000
   pub all : List StartValue
-  pub given : StartsAre (content starts) program all
+  pub given : IsListed (content starts) program all

@@ -6,19 +6,19 @@ ghost use Rattle.tim_base.specs.Faults.{Rose};
 ghost use Rattle.start_file.specs.Starts.{seen};
 ghost use Rattle.tool_texts.specs.Ends.{IsStop, status_of};
 ghost use Rattle.tool_stages.specs.Fetches.{Fetches};
-ghost use Rattle.tool_stages.specs.Begins.{IsCompiled, HasCompiled, IsPrepared, CanAudit};
+ghost use Rattle.tool_stages.specs.Begins.{IsCompiled, HasCompiled, CanAudit};
 ghost use Rattle.tool_stages.specs.Accepted.{is_past_typing, IsAccepted};
-ghost use Rattle.lab_runs.specs.Labels.{NamedProgramStops, NamedCompileStops, NamedPrepareStops};
+ghost use Rattle.lab_runs.specs.Labels.{HasPrepared, NamedProgramStops, NamedCompileStops, NamedPrepareStops};
 
 use crate::label::observer_named;
 use mit_syntax::program::Program;
+use space_stage::listed::listed;
 use std::alloc::Global;
 use tim_base::shelf::Shelf;
 use tool_stages::compiled::Compiled;
 use tool_stages::image::image;
 use tool_stages::prepared::Prepared;
 use tool_stages::program::read_program;
-use tool_stages::starts::all_starts;
 use tool_stages::types::typed;
 use tool_texts::stop::Stop;
 
@@ -66,7 +66,8 @@ pub fn compile<S: Shelf>(
     }
 }
 
-/// An accepted program of a file, the label of an observer, and the starts that another file gives.
+/// An accepted program of a file, the label of an observer, and the starts that another file gives, as
+/// a list or as a space.
 ///
 /// # Errors
 /// Stops with the first refusal, or with `Memory`.
@@ -80,7 +81,7 @@ pub fn prepare<S: Shelf>(
     ensures same { KeepsFiles (S.content shelf.old) (S.content shelf.new) }
     ensures later { NoCountFalls (S.faults shelf.old) (S.faults shelf.new) }
     ensures log { Fetches (file.now ∷ starts.now ∷ []) (S.log shelf.old) (S.log shelf.new) result }
-    ensures ok { IfOk result (λ r. IsPrepared (S.content shelf.old) file.now name.now (S.content shelf.old starts.now) r.compiled.typed.labelled r.observer
+    ensures ok { IfOk result (λ r. HasPrepared (S.content shelf.old) file.now name.now (S.content shelf.old starts.now) r.compiled.typed.labelled r.observer
         r.compiled.image (map seen r.starts.items)) }
     ensures observed { IfOk result (λ r. r.compiled.observer ≡ Some r.observer) }
     ensures fit { IfOk result (λ r. CanAudit r.compiled.typed.labelled r.observer r.compiled.image (map seen r.starts.items)) }
@@ -94,7 +95,7 @@ pub fn prepare<S: Shelf>(
         Err(stop) => return Err(stop),
     };
     let observer = compiled.observer.unwrap();
-    match all_starts(alloc, shelf, starts, compiled.typed.labelled().program()) {
+    match listed(alloc, shelf, starts, compiled.typed.labelled().program()) {
         Ok(starts) => Ok(Prepared {
             compiled,
             observer,

@@ -20,11 +20,11 @@ use code_lower::lower::{LowerFault, lower_labelled};
 use label_code::image::Image;
 use label_lattice::label::Label;
 use mit_syntax::program::Program;
+use space_stage::listed::listed;
 use start_file::start::Start;
 use std::alloc::Global;
 use tim_base::shelf::Shelf;
 use tool_stages::program::read_program;
-use tool_stages::starts::all_starts;
 use tool_texts::lines;
 use tool_texts::status::Status;
 use tool_texts::stop::{Stop, no_memory};
@@ -109,7 +109,8 @@ pub fn shown_file<S: Shelf>(
     }
 }
 
-/// What runs of the program of a file, the label of an observer that is named, and the starts that another file gives.
+/// What runs of the program of a file, the label of an observer that is named, and the starts that another file gives, as
+/// a list or as a space.
 /// With `refused_too` a program runs also where no labels type it.
 ///
 /// # Errors
@@ -138,7 +139,7 @@ pub fn shown_runs<S: Shelf>(
         Ok(shown) => shown,
         Err(stop) => return Err(stop),
     };
-    match all_starts(alloc, shelf, starts, shown.labels.labelled().program()) {
+    match listed(alloc, shelf, starts, shown.labels.labelled().program()) {
         Ok(starts) => Ok(ShownRuns {
             program: shown,
             starts,

@@ -8,6 +8,7 @@ use Rattle.tool_stages.specs.declared.envs.Environment.{Environment}
 use Rattle.tool_stages.specs.Content.{Content, IsKnown, AreKnown, NoneRises}
 use Rattle.tool_stages.proofs.ChainLemmas.{first_file, second_file}
 use Rattle.lab_bound.specs.Complete.{CanBound}
+use Rattle.lab_ready.specs.Complete.{CanReady}
 use Rattle.lab_bound.proofs.Answering.{completes as bound_completes}
 use Rattle.lab_leak.specs.Complete.{CanLeak}
 use Rattle.lab_leak.proofs.Answering.{completes as leak_completes}
@@ -82,7 +83,7 @@ completes_in env old new Rises content (why_starts file starts) r Rose ends writ
 completes_in env old new Rises content (why_audit file starts observer machine budget) r Rose ends write e known can none n =
     let k = first_file Rises content file (starts ∷ []) none known in
     let m = second_file Rises content file starts [] none known in
-    done_if (CanBound content file starts observer env budget) r e can (λ goes.
+    done_if (CanReady content file starts observer env budget) r e can (λ goes.
     ends_as old new (BeforeIn env content (why_audit file starts observer machine budget))
     (IsAnswerIn env Rises content (why_audit file starts observer machine budget)) r status.Done ends (λ f. n (write f))
     (λ t h. ready_done Rises content file starts observer env budget r t k.0 m.0 goes h))

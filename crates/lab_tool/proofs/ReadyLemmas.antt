@@ -35,7 +35,7 @@ use Rattle.lab_why.specs.Reasons.{HasReason}
 use Rattle.lab_why.specs.Starts.{StartsStop}
 use Rattle.lab_why.proofs.FaultLemmas.{why_goes, why_one}
 use Rattle.lab_why.proofs.OneReason.{one_reason}
-use Rattle.lab_bound.specs.Complete.{CanBound}
+use Rattle.lab_ready.specs.Complete.{CanReady}
 use Rattle.lab_ready.specs.Answer.{LongStops, FaultTold, RefusalTold, refusal_status, AuditTold, IsRest, IsReadyAnswer, most_instructions}
 use Rattle.lab_ready.specs.Budget.{MoreTold, TriedTold, BudgetTold}
 use Rattle.lab_tool.proofs.StartsLemmas.{either, either_one, either_goes}
@@ -192,7 +192,7 @@ lower_done c held R e t p o s x n known can =
     (λ h. either_goes held p known R ss s x n short.1.1 (either R held p s x h)) (λ h. audit_done e t q o ss s x short.1.2 h)))
 
 pub ready_done : (Rises : List ℕ → Type 0) (content : Content) (file starts observer : List ℕ) (e : Environment) (t : ℕ) (s : Status) (x : List ℕ)
-    → (Rises file → ⊥) → (Rises starts → ⊥) → CanBound content file starts observer e t
+    → (Rises file → ⊥) → (Rises starts → ⊥) → CanReady content file starts observer e t
     → IsReadyAnswer Rises content file starts observer e t s x → s ≡ status.Done
 ready_done Rises content file starts observer e t s x n m can =
     let p = can.goes.0 in

@@ -10,10 +10,10 @@ use Rattle.tool_texts.specs.declared.status.Status.TheVariants as status
 use Rattle.tool_stages.specs.declared.envs.Environment.{Environment}
 use Rattle.tool_stages.specs.Content.{Content}
 use Rattle.tool_stages.specs.Stages.{ProgramStops}
-use Rattle.tool_stages.proofs.StopLemmas.{start_rise}
 use Rattle.lab_bound.specs.Answer.{HasBound}
 use Rattle.lab_leak.specs.Answer.{IsLeakAnswer}
 use Rattle.space_stage.proofs.Stops.{given_rise}
+use Rattle.space_stage.proofs.Listing.{listed_rise}
 use Rattle.lab_check.proofs.FoundLemmas.{check_rise}
 use Rattle.lab_runs.specs.Labels.{NamesAndPrepares}
 use Rattle.lab_runs.specs.Shown.{OfRuns, ShowsRuns}
@@ -65,7 +65,7 @@ module _ (Rises Rises' : List ℕ → Type 0) (content : Content) (rise : (name 
   prepares_rise file starts observer Next s t (inr (p, reads, inr (o, sees, inl h))) = inr (p, reads, inr (o, sees, inl h))
   prepares_rise file starts observer Next s t (inr (p, reads, inr (o, sees, inr (q, types, inl h)))) = inr (p, reads, inr (o, sees, inr (q, types, inl h)))
   prepares_rise file starts observer Next s t (inr (p, reads, inr (o, sees, inr (q, types, inr (code, image, inl h))))) =
-      let stop = start_rise (Rises starts) (Rises' starts) (content starts) p s t (rise starts) h in
+      let stop = listed_rise (Rises starts) (Rises' starts) (content starts) p s t (rise starts) h in
       inr (p, reads, inr (o, sees, inr (q, types, inr (code, image, inl stop))))
   prepares_rise file starts observer Next s t (inr (p, reads, inr (o, sees, inr (q, types, inr (code, image, inr h))))) =
       inr (p, reads, inr (o, sees, inr (q, types, inr (code, image, inr h))))
@@ -78,7 +78,7 @@ module _ (Rises Rises' : List ℕ → Type 0) (content : Content) (rise : (name 
   shows_rise refused file starts observer IsText s t (inr (p, reads, inr (o, sees, inr (x, shows, inl h)))) =
       inr (p, reads, inr (o, sees, inr (x, shows, inl h)))
   shows_rise refused file starts observer IsText s t (inr (p, reads, inr (o, sees, inr (x, shows, inr (code, image, inl h))))) =
-      let stop = start_rise (Rises starts) (Rises' starts) (content starts) p s t (rise starts) h in
+      let stop = listed_rise (Rises starts) (Rises' starts) (content starts) p s t (rise starts) h in
       inr (p, reads, inr (o, sees, inr (x, shows, inr (code, image, inl stop))))
   shows_rise refused file starts observer IsText s t (inr (p, reads, inr (o, sees, inr (x, shows, inr (code, image, inr h))))) =
       inr (p, reads, inr (o, sees, inr (x, shows, inr (code, image, inr h))))

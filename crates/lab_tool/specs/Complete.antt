@@ -12,6 +12,7 @@ use Rattle.tool_stages.specs.Content.{Content, AreKnown}
 use Rattle.tool_stages.specs.Goes.{IsTypable}
 use Rattle.lab_bound.specs.Complete.{CanBound}
 use Rattle.lab_leak.specs.Complete.{CanLeak}
+use Rattle.lab_ready.specs.Complete.{CanReady}
 use Rattle.lab_runs.specs.Shown.{CanShow}
 use Rattle.lab_steady.specs.Answer.{parts_or}
 use Rattle.lab_steady.specs.Complete.{SteadyGoes}
@@ -67,7 +68,7 @@ abbrev pub GoesIn : Environment → Content → Asked → Status → Type 0
 GoesIn e content (why file None) s = WhyGoes (content file) s
 GoesIn e content (why file (Some name)) s = IsDoneIf (Names (content file) name) s
 GoesIn e content (why_starts file starts) s = WhyStartsGoes (content file) (content starts) s
-GoesIn e content (why_audit file starts observer machine budget) s = IsDoneIf (CanBound content file starts observer e budget) s
+GoesIn e content (why_audit file starts observer machine budget) s = IsDoneIf (CanReady content file starts observer e budget) s
 GoesIn e content (seen file starts observer machine budget refused) s = IsDoneIf (CanShow refused content file starts (Some observer)) s
 GoesIn e content (bound file starts observer machine budget) s = IsDoneIf (CanBound content file starts observer e budget) s
 GoesIn e content (leak file starts observer machine budget refused) s = IsDoneIf (CanLeak refused content file starts observer e budget) s

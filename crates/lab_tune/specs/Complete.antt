@@ -6,7 +6,7 @@ use Rattle.start_file.specs.Starts.{StartValue}
 use Rattle.tool_stages.specs.declared.envs.Environment.{Environment}
 use Rattle.tool_texts.specs.declared.status.Status.{Status}
 use Rattle.tool_stages.specs.Content.{Content, IsKnown}
-use Rattle.tool_stages.specs.Stages.{StartsAre}
+use Rattle.space_stage.specs.Listed.{IsListed}
 use Rattle.tool_stages.specs.Goes.{CanBeAudited, CanCompile, OfObserver}
 use Rattle.lab_tune.specs.Answer.{HasNumber, NoneIn, TooLongIn, IsTuneAnswer}
 
@@ -27,7 +27,7 @@ pub record CanBeTuned (e : Environment) (t : ℕ) (q : LabelledProgram) (o mark 
 pub record CanTune (content : Content) (file starts observer : List ℕ) (e : Environment) (t mark : ℕ) (bits : Option ℕ) : Type 0 where
   pub known : IsKnown (content file)
   pub known_starts : IsKnown (content starts)
-  pub goes : CanCompile (content file) (Some observer) (λ p q o. (ss : List StartValue) × StartsAre (content starts) p ss
+  pub goes : CanCompile (content file) (Some observer) (λ p q o. (ss : List StartValue) × IsListed (content starts) p ss
       × OfObserver (λ l. CanBeAudited e t q l ss × CanBeTuned e t q l mark bits ss) o)
 
 -- Where both files are told to hold bytes, and neither count of faults rose, two answers are one: they have the same

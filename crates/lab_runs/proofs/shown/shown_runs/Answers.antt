@@ -14,50 +14,50 @@ returns-in-Err-clause-stop g c =
     (λ (name : List ℕ). Rose (g.S.Shelf.faults c.args.shelf.now name) (g.S.Shelf.faults c.shown_file.new.shelf name))
     (g.S.Shelf.content c.args.shelf.now) c.args.file.now c.args.starts.now c.in-Err.stop c.in-Err.ensures.stop
 
-pub returns-in-Ok-all_starts-clause-ok : goal.returns-in-Ok-all_starts-clause-ok
-returns-in-Ok-all_starts-clause-ok g c =
+pub returns-in-Ok-listed-clause-ok : goal.returns-in-Ok-listed-clause-ok
+returns-in-Ok-listed-clause-ok g c =
     runs_of c.args.refused_too (g.S.Shelf.content c.args.shelf.now) c.args.file.now (option_map (λ s. s.now) c.args.name) (shown_of c.in-Ok.shown.labels)
     c.in-Ok.shown.observer c.in-Ok.shown.image c.args.starts.now (g.S.Shelf.content c.shown_file.new.shelf c.args.starts.now) c.program.result.now
-    (map seen c.in-Ok-all_starts.starts.items) (c.shown_file.ensures.same c.args.starts.now)
-    (c.program.ensures.program ∙ ap (λ l. l.program) c.labelled.ensures) c.in-Ok.ensures.ok c.in-Ok-all_starts.ensures.ok
+    (map seen c.in-Ok-listed.starts.items) (c.shown_file.ensures.same c.args.starts.now)
+    (c.program.ensures.program ∙ ap (λ l. l.program) c.labelled.ensures) c.in-Ok.ensures.ok c.in-Ok-listed.ensures.ok
 
-pub returns-in-Ok-all_starts-clause-fit : goal.returns-in-Ok-all_starts-clause-fit
-returns-in-Ok-all_starts-clause-fit g c =
+pub returns-in-Ok-listed-clause-fit : goal.returns-in-Ok-listed-clause-fit
+returns-in-Ok-listed-clause-fit g c =
     let x = shown_of c.in-Ok.shown.labels in
     let is = c.program.ensures.program ∙ ap (λ l. l.program) c.labelled.ensures in
-    let ss = map seen c.in-Ok-all_starts.starts.items in
+    let ss = map seen c.in-Ok-listed.starts.items in
     let name = option_map (λ s. s.now) c.args.name in
     runs_fit c.args.refused_too (g.S.Shelf.content c.args.shelf.now) c.args.file.now name x c.in-Ok.shown.observer c.in-Ok.shown.image
     c.args.starts.now c.program.result.now ss
     (runs_of c.args.refused_too (g.S.Shelf.content c.args.shelf.now) c.args.file.now name x
     c.in-Ok.shown.observer c.in-Ok.shown.image c.args.starts.now (g.S.Shelf.content c.shown_file.new.shelf c.args.starts.now) c.program.result.now
-    ss (c.shown_file.ensures.same c.args.starts.now) is c.in-Ok.ensures.ok c.in-Ok-all_starts.ensures.ok)
-    is c.in-Ok-all_starts.ensures.valid
+    ss (c.shown_file.ensures.same c.args.starts.now) is c.in-Ok.ensures.ok c.in-Ok-listed.ensures.ok)
+    is c.in-Ok-listed.ensures.valid
 
-pub returns-in-Err-all_starts-clause-stop : goal.returns-in-Err-all_starts-clause-stop
-returns-in-Err-all_starts-clause-stop g c =
+pub returns-in-Err-listed-clause-stop : goal.returns-in-Err-listed-clause-stop
+returns-in-Err-listed-clause-stop g c =
     starts_stop_runs c.args.refused_too (option_map (λ s. s.now) c.args.name)
-    (λ (name : List ℕ). Rose (g.S.Shelf.faults c.args.shelf.now name) (g.S.Shelf.faults c.all_starts.new.shelf name))
+    (λ (name : List ℕ). Rose (g.S.Shelf.faults c.args.shelf.now name) (g.S.Shelf.faults c.listed.new.shelf name))
     (g.S.Shelf.content c.args.shelf.now) c.args.file.now c.args.starts.now
-    (Rose (g.S.Shelf.faults c.shown_file.new.shelf c.args.starts.now) (g.S.Shelf.faults c.all_starts.new.shelf c.args.starts.now))
+    (Rose (g.S.Shelf.faults c.shown_file.new.shelf c.args.starts.now) (g.S.Shelf.faults c.listed.new.shelf c.args.starts.now))
     (g.S.Shelf.content c.shown_file.new.shelf c.args.starts.now) (shown_of c.in-Ok.shown.labels) c.in-Ok.shown.observer c.in-Ok.shown.image
-    c.program.result.now c.in-Err-all_starts.stop
+    c.program.result.now c.in-Err-listed.stop
     (rose_since _ _ _ (c.shown_file.ensures.later c.args.starts.now)) (c.shown_file.ensures.same c.args.starts.now)
-    (c.program.ensures.program ∙ ap (λ l. l.program) c.labelled.ensures) c.in-Ok.ensures.ok c.in-Err-all_starts.ensures.stop
+    (c.program.ensures.program ∙ ap (λ l. l.program) c.labelled.ensures) c.in-Ok.ensures.ok c.in-Err-listed.ensures.stop
 
-pub returns-in-Ok-all_starts-clause-same : goal.returns-in-Ok-all_starts-clause-same
-returns-in-Ok-all_starts-clause-same g c = λ name. c.all_starts.ensures.same name ∙ c.shown_file.ensures.same name
+pub returns-in-Ok-listed-clause-same : goal.returns-in-Ok-listed-clause-same
+returns-in-Ok-listed-clause-same g c = λ name. c.listed.ensures.same name ∙ c.shown_file.ensures.same name
 
-pub returns-in-Ok-all_starts-clause-later : goal.returns-in-Ok-all_starts-clause-later
-returns-in-Ok-all_starts-clause-later g c = λ name. omega (arith, c.shown_file.ensures.later name, c.all_starts.ensures.later name)
+pub returns-in-Ok-listed-clause-later : goal.returns-in-Ok-listed-clause-later
+returns-in-Ok-listed-clause-later g c = λ name. omega (arith, c.shown_file.ensures.later name, c.listed.ensures.later name)
 
-pub returns-in-Ok-all_starts-clause-accepted : goal.returns-in-Ok-all_starts-clause-accepted
-returns-in-Ok-all_starts-clause-accepted g c = λ e.
+pub returns-in-Ok-listed-clause-accepted : goal.returns-in-Ok-listed-clause-accepted
+returns-in-Ok-listed-clause-accepted g c = λ e.
     is_accepted c.args.refused_too (g.S.Shelf.content c.args.shelf.now) c.args.file.now (option_map (λ s. s.now) c.args.name)
     (shown_of c.in-Ok.shown.labels) c.in-Ok.shown.observer c.in-Ok.shown.image e c.in-Ok.ensures.ok
 
-pub returns-in-Err-all_starts-clause-accepted_stop : goal.returns-in-Err-all_starts-clause-accepted_stop
-returns-in-Err-all_starts-clause-accepted_stop g c = λ e late.
+pub returns-in-Err-listed-clause-accepted_stop : goal.returns-in-Err-listed-clause-accepted_stop
+returns-in-Err-listed-clause-accepted_stop g c = λ e late.
     is_accepted c.args.refused_too (g.S.Shelf.content c.args.shelf.now) c.args.file.now (option_map (λ s. s.now) c.args.name)
     (shown_of c.in-Ok.shown.labels) c.in-Ok.shown.observer c.in-Ok.shown.image e c.in-Ok.ensures.ok
 
@@ -67,14 +67,14 @@ returns-in-Err-clause-accepted_stop g c = λ e late.
     (λ (name : List ℕ). Rose (g.S.Shelf.faults c.args.shelf.now name) (g.S.Shelf.faults c.shown_file.new.shelf name))
     (g.S.Shelf.content c.args.shelf.now) c.args.file.now (option_map (λ s. s.now) c.args.name) c.in-Err.stop e c.in-Err.ensures.stop late)
 
-pub returns-in-Ok-all_starts-clause-log : goal.returns-in-Ok-all_starts-clause-log
-returns-in-Ok-all_starts-clause-log g c =
+pub returns-in-Ok-listed-clause-log : goal.returns-in-Ok-listed-clause-log
+returns-in-Ok-listed-clause-log g c =
     fetch_then (c.args.file.now ∷ []) (c.args.starts.now ∷ []) (g.S.Shelf.log c.args.shelf.now) (g.S.Shelf.log c.shown_file.new.shelf)
-    (g.S.Shelf.log c.all_starts.new.shelf)
-    c.in-Ok.shown (Ok c.in-Ok-all_starts.starts) c.in-Ok.ensures.log c.in-Ok-all_starts.ensures.log
+    (g.S.Shelf.log c.listed.new.shelf)
+    c.in-Ok.shown (Ok c.in-Ok-listed.starts) c.in-Ok.ensures.log c.in-Ok-listed.ensures.log
 
-pub returns-in-Err-all_starts-clause-log : goal.returns-in-Err-all_starts-clause-log
-returns-in-Err-all_starts-clause-log g c =
+pub returns-in-Err-listed-clause-log : goal.returns-in-Err-listed-clause-log
+returns-in-Err-listed-clause-log g c =
     fetch_then {B = Unit {0}} (c.args.file.now ∷ []) (c.args.starts.now ∷ []) (g.S.Shelf.log c.args.shelf.now) (g.S.Shelf.log c.shown_file.new.shelf)
-    (g.S.Shelf.log c.all_starts.new.shelf)
-    c.in-Ok.shown (Err c.in-Err-all_starts.stop) c.in-Ok.ensures.log c.in-Err-all_starts.ensures.log
+    (g.S.Shelf.log c.listed.new.shelf)
+    c.in-Ok.shown (Err c.in-Err-listed.stop) c.in-Ok.ensures.log c.in-Err-listed.ensures.log
