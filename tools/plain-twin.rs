@@ -3646,7 +3646,7 @@ fn read_starts(words: &Words, program: &Program) -> Answer<Vec<Start>> {
         return Ok(vec![Start { memory: vec![0; program.elements], touches: Vec::new() }]);
     }
     match String::from_utf8(bytes_of(words, 1, "starts")?) {
-        Ok(text) => starts_of(&text, program, words.command == "leak"),
+        Ok(text) => starts_of(&text, program, matches!(words.command, "seen" | "timeline" | "bound" | "leak")),
         Err(_) => refused("not TOML".into()),
     }
 }
