@@ -1,12 +1,12 @@
 //! From a program and a space to what is told.
 
-ghost use Rattle.std.specs.Prelude.{◌≡◌, ◌≢◌, ◌≤◌, ◌^◌, ℕ, Some, IfOk, IfErr};
+ghost use Rattle.std.specs.Prelude.{◌≡◌, ◌≢◌, ◌≤◌, ◌^◌, ℕ, All, Some, IfOk, IfErr};
 ghost use Rattle.class_counts.specs.Tally.{total};
 ghost use Rattle.label_lattice.specs.declared.label.Label.{Label as LabelValue};
 ghost use Rattle.timing_types.specs.Labelled.{LabelledProgram};
 ghost use Rattle.leak_classes.specs.declared.fault.WalkFault.TheVariants as cause;
 ghost use Rattle.leak_classes.specs.Views.{classes_of};
-ghost use Rattle.space_starts.specs.Space.{SpaceValue, seen, size_of};
+ghost use Rattle.space_starts.specs.Space.{SpaceValue, lists, seen, size_of, IsValues};
 ghost use Rattle.run_limits.specs.Cycles.{IsCycles};
 ghost use Rattle.tool_stages.specs.declared.envs.Environment.{Environment};
 ghost use Rattle.tool_texts.specs.Ends.{IsStop};
@@ -32,7 +32,8 @@ use tool_texts::stop::{Stop, no_memory};
 
 // How many starts there are.
 fn size_in(alloc: Global, space: &Space) -> Result<u64, AllocError>
-    requires { size_of (seen space.now) ≤ 2 ^ 40 }
+    requires values { All IsValues (lists space.now.memory.items) }
+    requires few { size_of (seen space.now) ≤ 2 ^ 40 }
     ensures { IfOk result (λ n. n ≡ size_of (seen space.now)) }
 {
     let size = space.size(alloc)?;
