@@ -32,7 +32,7 @@ const MOST_INSTRUCTIONS: usize = 200_000;
 const MOST_RUNS: usize = 4_096;
 const MOST_EVENTS: usize = 16_777_216;
 const GREATEST_BUDGET: u64 = 1 << 40;
-const MOST_SETS: i64 = 64;
+const MOST_SETS: i64 = 4_096;
 const MOST_WAYS: i64 = 8;
 const MOST_COST: u64 = 1_000;
 
@@ -122,6 +122,56 @@ impl Operator {
             Operator::AtMost => "<=",
             Operator::Greater => ">",
             Operator::AtLeast => ">=",
+        }
+    }
+}
+
+impl Operator {
+    fn act(self) -> Act {
+        match self {
+            Operator::Add => Act::Add,
+            Operator::Subtract => Act::Subtract,
+            Operator::Multiply => Act::Multiply,
+            Operator::Divide => Act::Divide,
+            Operator::Remainder => Act::Remainder,
+            Operator::Equal => Act::Equal,
+            Operator::Different => Act::Different,
+            Operator::Less => Act::Less,
+            Operator::AtMost => Act::AtMost,
+            Operator::Greater => Act::Greater,
+            Operator::AtLeast => Act::AtLeast,
+        }
+    }
+}
+
+impl Act {
+    /// What stands in an image before what the instruction names.
+    fn word(self) -> &'static str {
+        match self {
+            Act::Push => " PUSH ",
+            Act::Load => " LOAD ",
+            Act::Store => " STORE ",
+            Act::LoadElement => " LOADX ",
+            Act::StoreElement => " STOREX ",
+            Act::Add => " OP +",
+            Act::Subtract => " OP -",
+            Act::Multiply => " OP *",
+            Act::Divide => " OP /",
+            Act::Remainder => " OP %",
+            Act::Equal => " OP ==",
+            Act::Different => " OP !=",
+            Act::Less => " OP <",
+            Act::AtMost => " OP <=",
+            Act::Greater => " OP >",
+            Act::AtLeast => " OP >=",
+            Act::JumpIfZero => " BRZ ",
+            Act::JumpIfNot => " BRNZ ",
+            Act::Jump => " JMP ",
+            Act::Sleep => " SLEEP",
+            Act::Begin => " MITB ",
+            Act::End => " MITE",
+            Act::Nothing => " NOP",
+            Act::Halt => " HALT",
         }
     }
 }
@@ -454,6 +504,14 @@ impl Hasher for NameHasher {
             word[..chunk.len()].copy_from_slice(chunk);
             self.0 = (self.0.rotate_left(5) ^ u64::from_le_bytes(word)).wrapping_mul(0x517c_c1b7_2722_0a95);
         }
+    }
+
+    fn write_u64(&mut self, word: u64) {
+        self.0 = (self.0.rotate_left(5) ^ word).wrapping_mul(0x517c_c1b7_2722_0a95);
+    }
+
+    fn write_usize(&mut self, word: usize) {
+        self.write_u64(word as u64);
     }
 
     fn write_u8(&mut self, byte: u8) {
@@ -1223,16 +1281,37 @@ impl Checker<'_> {
 
 // --- Texts
 
-fn write_number(value: u64, out: &mut Vec<u8>) {
-    let (mut digits, mut at, mut rest) = ([0; 20], 20, value);
-    loop {
-        at -= 1;
-        digits[at] = b'0' + (rest % 10) as u8;
-        rest /= 10;
-        if rest == 0 {
-            break;
-        }
+/// The digits of the numbers below 100.
+const PAIRS: [[u8; 2]; 100] = {
+    let (mut pairs, mut number) = ([[0; 2]; 100], 0);
+    while number < 100 {
+        pairs[number] = [b'0' + (number / 10) as u8, b'0' + (number % 10) as u8];
+        number += 1;
     }
+    pairs
+};
+
+/// Writes the digits of a number to the end of a row, two at a time: the place of the first one.
+fn digits_of(value: u64, digits: &mut [u8; 20]) -> usize {
+    let (mut at, mut rest) = (20, value);
+    while rest >= 100 {
+        at -= 2;
+        digits[at..at + 2].copy_from_slice(&PAIRS[(rest % 100) as usize]);
+        rest /= 100;
+    }
+    if rest >= 10 {
+        at -= 2;
+        digits[at..at + 2].copy_from_slice(&PAIRS[rest as usize]);
+    } else {
+        at -= 1;
+        digits[at] = b'0' + rest as u8;
+    }
+    at
+}
+
+fn write_number(value: u64, out: &mut Vec<u8>) {
+    let mut digits = [0; 20];
+    let at = digits_of(value, &mut digits);
     out.extend_from_slice(&digits[at..]);
 }
 
@@ -1408,45 +1487,73 @@ impl Printer<'_> {
 
 // --- Code
 
-#[derive(Clone, Copy)]
+/// What an instruction does; each operator is one.
+#[derive(Clone, Copy, PartialEq)]
 enum Act {
-    Push(i64),
-    Load(u32),
-    Store(u32),
-    LoadElement { first: u32, length: u32 },
-    StoreElement { first: u32, length: u32 },
-    Apply(Operator),
-    JumpIfZero(u32),
-    JumpIfNot(u32),
-    Jump(u32),
+    Push,
+    Load,
+    Store,
+    LoadElement,
+    StoreElement,
+    Add,
+    Subtract,
+    Multiply,
+    Divide,
+    Remainder,
+    Equal,
+    Different,
+    Less,
+    AtMost,
+    Greater,
+    AtLeast,
+    JumpIfZero,
+    JumpIfNot,
+    Jump,
     Sleep,
-    Begin { level: u8, mark: u32 },
+    Begin,
     End,
     Nothing,
     Halt,
 }
 
-/// An instruction with what its labels tell an access.
+/// An instruction, a row of 16 bytes: a number, or the length of an array, or a mark stands in `value`; a variable, the first
+/// one of an array, a target or a level in `first`.
 #[derive(Clone, Copy)]
 struct Instruction {
     act: Act,
     reach: Reach,
+    first: u32,
+    value: i64,
 }
 
-/// The partitions that an access concerns: it changes that of `write`, and reads it where `reads_own` says so, and
-/// those of `others`, a bit for each label. `read` is its read label.
+/// The labels of an access: it changes the partition of `write`, and reads those at or below `read`. `own` is `write` where its
+/// partition is read too, and else one that is always empty.
 #[derive(Clone, Copy)]
 struct Reach {
-    others: u32,
-    write: u8,
-    reads_own: bool,
     read: u8,
+    write: u8,
+    own: u8,
 }
 
-/// An image, and the greatest number of operands that one of its expressions has at once.
+/// The number of the partition that is always empty.
+const NO_PARTITION: u8 = MOST_LABELS as u8;
+
+/// Of each label a bit for each that flows to it.
+type Below = [u32; MOST_LABELS];
+
+impl Reach {
+    fn reads_own(self) -> bool {
+        self.own != NO_PARTITION
+    }
+
+    /// The partitions that are read beside that of `write`, a bit for each.
+    fn others(self, below: &Below) -> u32 {
+        below[self.read as usize % MOST_LABELS] & !(1 << self.write)
+    }
+}
+
 struct Image {
     code: Vec<Instruction>,
-    most_operands: usize,
 }
 
 struct Lowering<'p> {
@@ -1454,36 +1561,30 @@ struct Lowering<'p> {
     /// Whether accesses of all labels go to the partition of the lowest one.
     is_shared: bool,
     code: Vec<Instruction>,
-    operands: usize,
-    most_operands: usize,
 }
 
 fn lowered(labelled: &Labelled, is_shared: bool) -> Answer<Image> {
-    let mut lowering = Lowering { labelled, is_shared, code: Vec::new(), operands: 0, most_operands: 0 };
+    let mut lowering = Lowering { labelled, is_shared, code: Vec::with_capacity(labelled.program.parts.len() + 3 * labelled.program.commands + 1) };
     lowering.list(&labelled.program.body);
     let bottom = labelled.program.lattice.bottom;
-    lowering.push(Act::Halt, (bottom, bottom));
+    lowering.push(Act::Halt, 0, 0, (bottom, bottom));
     if lowering.code.len() > MOST_INSTRUCTIONS {
         return Err(Stop::Line(7, format!("too long: image {}\n", lowering.code.len())));
     }
-    Ok(Image { code: lowering.code, most_operands: lowering.most_operands })
+    Ok(Image { code: lowering.code })
 }
 
 impl Lowering<'_> {
-    fn push(&mut self, act: Act, (read, write): (u8, u8)) {
+    fn push(&mut self, act: Act, first: u32, value: i64, (read, write): (u8, u8)) {
         let lattice = &self.labelled.program.lattice;
         let (read, write) = if self.is_shared { (lattice.bottom, lattice.bottom) } else { (read, write) };
-        let below = lattice.below[read as usize];
-        let reach = Reach { others: below & !(1 << write), write, reads_own: below >> write & 1 != 0, read };
-        self.code.push(Instruction { act, reach });
+        let own = if lattice.flows(write, read) { write } else { NO_PARTITION };
+        self.code.push(Instruction { act, reach: Reach { read, write, own }, first, value });
     }
 
     /// Fills in the place after the last instruction as a jump's target.
     fn land(&mut self, jump: usize) {
-        let here = self.code.len() as u32;
-        if let Act::JumpIfZero(target) | Act::Jump(target) = &mut self.code[jump].act {
-            *target = here;
-        }
+        self.code[jump].first = self.code.len() as u32;
     }
 
     fn array(&self, declaration: u32) -> (u32, u32) {
@@ -1494,29 +1595,22 @@ impl Lowering<'_> {
     fn expression(&mut self, expression: Expression, labels: (u8, u8)) {
         let labelled = self.labelled;
         for part in labelled.program.parts_of(expression) {
-            let act = match *part {
-                Part::Number(value) => Act::Push(value),
-                Part::Variable { declaration, .. } => Act::Load(self.array(declaration).0),
+            let (act, first, value) = match *part {
+                Part::Number(value) => (Act::Push, 0, value),
+                Part::Variable { declaration, .. } => (Act::Load, self.array(declaration).0, 0),
                 Part::Element { declaration, .. } => {
                     let (first, length) = self.array(declaration);
-                    Act::LoadElement { first, length }
+                    (Act::LoadElement, first, length as i64)
                 }
-                Part::Apply { operator, .. } => Act::Apply(operator),
+                Part::Apply { operator, .. } => (operator.act(), 0, 0),
             };
-            match act {
-                Act::Push(_) | Act::Load(_) => self.operands += 1,
-                Act::Apply(_) => self.operands -= 1,
-                _ => {}
-            }
-            self.most_operands = self.most_operands.max(self.operands);
-            self.push(act, labels);
+            self.push(act, first, value, labels);
         }
     }
 
     fn list(&mut self, commands: &[Command]) {
         for command in commands {
             self.command(command);
-            self.operands = 0;
         }
     }
 
@@ -1527,20 +1621,19 @@ impl Lowering<'_> {
         }
         self.expression(command.value, labels);
         match &command.form {
-            Form::Skip => self.push(Act::Nothing, labels),
-            Form::Assign { to } => self.push(Act::Store(self.array(*to).0), labels),
+            Form::Skip => self.push(Act::Nothing, 0, 0, labels),
+            Form::Assign { to } => self.push(Act::Store, self.array(*to).0, 0, labels),
             Form::Put { to, .. } => {
                 let (first, length) = self.array(*to);
-                self.push(Act::StoreElement { first, length }, labels);
+                self.push(Act::StoreElement, first, length as i64, labels);
             }
-            Form::Sleep => self.push(Act::Sleep, labels),
+            Form::Sleep => self.push(Act::Sleep, 0, 0, labels),
             Form::If { .. } | Form::While { .. } => self.branch(command, labels),
             Form::Mitigate { mark, body } => {
                 let level = self.labelled.levels[*mark as usize];
-                self.push(Act::Begin { level, mark: *mark }, labels);
-                self.operands = 0;
+                self.push(Act::Begin, level as u32, *mark as i64, labels);
                 self.list(body);
-                self.push(Act::End, labels);
+                self.push(Act::End, 0, 0, labels);
             }
         }
     }
@@ -1549,13 +1642,12 @@ impl Lowering<'_> {
         let lattice = &self.labelled.program.lattice;
         let raised = (lattice.join(labels.0, command.guard), lattice.join(labels.1, command.guard));
         let branch = self.code.len();
-        self.push(Act::JumpIfZero(0), labels);
-        self.operands = 0;
+        self.push(Act::JumpIfZero, 0, 0, labels);
         match &command.form {
             Form::If { yes, no } => {
                 self.list(yes);
                 let jump = self.code.len();
-                self.push(Act::Jump(0), raised);
+                self.push(Act::Jump, 0, 0, raised);
                 self.land(branch);
                 self.list(no);
                 self.land(jump);
@@ -1563,7 +1655,7 @@ impl Lowering<'_> {
             Form::While { body, .. } => {
                 self.list(body);
                 self.expression(command.value, raised);
-                self.push(Act::JumpIfNot(branch as u32 + 1), raised);
+                self.push(Act::JumpIfNot, branch as u32 + 1, 0, raised);
                 self.land(branch);
             }
             _ => {}
@@ -1576,42 +1668,21 @@ fn image_text(labelled: &Labelled, image: &Image) -> Vec<u8> {
     let program = &labelled.program;
     let (owners, names) = (program.owners(), &program.lattice.names);
     let mut out = Vec::with_capacity(20 * image.code.len());
-    for (number, Instruction { act, reach }) in image.code.iter().enumerate() {
+    for (number, Instruction { act, reach, first, value }) in image.code.iter().enumerate() {
         write_number(number as u64, &mut out);
-        let name_of = |variable: u32| program.declarations[owners[variable as usize] as usize].name.as_bytes();
-        let named = |out: &mut Vec<u8>, name: &str, variable: u32| {
-            out.extend_from_slice(name.as_bytes());
-            out.extend_from_slice(name_of(variable));
-        };
-        let numbered = |out: &mut Vec<u8>, name: &str, number: u32| {
-            out.extend_from_slice(name.as_bytes());
-            write_number(number as u64, out);
-        };
+        out.extend_from_slice(act.word().as_bytes());
         match *act {
-            Act::Push(value) => {
-                out.extend_from_slice(b" PUSH ");
-                write_signed(value, &mut out);
+            Act::Push => write_signed(*value, &mut out),
+            Act::Load | Act::Store | Act::LoadElement | Act::StoreElement => {
+                out.extend_from_slice(program.declarations[owners[*first as usize] as usize].name.as_bytes());
             }
-            Act::Load(variable) => named(&mut out, " LOAD ", variable),
-            Act::Store(variable) => named(&mut out, " STORE ", variable),
-            Act::LoadElement { first, .. } => named(&mut out, " LOADX ", first),
-            Act::StoreElement { first, .. } => named(&mut out, " STOREX ", first),
-            Act::Apply(operator) => {
-                out.extend_from_slice(b" OP ");
-                out.extend_from_slice(operator.sign().as_bytes());
+            Act::JumpIfZero | Act::JumpIfNot | Act::Jump => write_number(*first as u64, &mut out),
+            Act::Begin => {
+                out.extend_from_slice(names[*first as usize].as_bytes());
+                out.push(b' ');
+                write_number(*value as u64, &mut out);
             }
-            Act::JumpIfZero(target) => numbered(&mut out, " BRZ ", target),
-            Act::JumpIfNot(target) => numbered(&mut out, " BRNZ ", target),
-            Act::Jump(target) => numbered(&mut out, " JMP ", target),
-            Act::Sleep => out.extend_from_slice(b" SLEEP"),
-            Act::Begin { level, mark } => {
-                out.extend_from_slice(b" MITB ");
-                out.extend_from_slice(names[level as usize].as_bytes());
-                numbered(&mut out, " ", mark);
-            }
-            Act::End => out.extend_from_slice(b" MITE"),
-            Act::Nothing => out.extend_from_slice(b" NOP"),
-            Act::Halt => out.extend_from_slice(b" HALT"),
+            _ => {}
         }
         out.extend_from_slice(b" [");
         out.extend_from_slice(names[reach.read as usize].as_bytes());
@@ -1894,6 +1965,8 @@ struct Bank {
     bytes: u32,
     hit: u64,
     miss: u64,
+    /// Whether the first tag that came goes first, and not the one that was touched the longest time ago.
+    is_first_come: bool,
 }
 
 /// A bank with the tags of all labels' partitions, each set's from front to back. A tag may be any `u32`.
@@ -1937,20 +2010,24 @@ impl Held {
         (label * self.bank.sets as usize + set as usize) * self.bank.ways as usize
     }
 
-    /// Whether a partition that may be read holds the tag of an address; the write label's own gets it at its front.
-    fn touch(&mut self, address: u32, reach: Reach) -> bool {
+    /// Whether a partition that may be read holds the tag of an address; the write label's own gets it at its front, where
+    /// the rule does not leave it in its place.
+    fn touch(&mut self, address: u32, reach: Reach, below: &Below) -> bool {
         let tag = self.bytes.quotient(address);
         let (set, ways, tag) = (self.sets.rest(tag), self.bank.ways as usize, tag as u64);
         let first = self.first(reach.write as usize, set);
         let mut carried = tag;
-        for held in &mut self.tags[first..first + ways] {
-            std::mem::swap(held, &mut carried);
-            if carried == tag {
-                break;
+        let own = &mut self.tags[first..first + ways];
+        if !self.bank.is_first_come || !own.contains(&tag) {
+            for held in own {
+                std::mem::swap(held, &mut carried);
+                if carried == tag {
+                    break;
+                }
             }
         }
-        let mut is_held = carried == tag && reach.reads_own;
-        let mut others = reach.others;
+        let mut is_held = carried == tag && reach.reads_own();
+        let mut others = reach.others(below);
         while !is_held && others != 0 {
             let first = self.first(others.trailing_zeros() as usize, set);
             is_held = self.tags[first..first + ways].contains(&tag);
@@ -1962,32 +2039,39 @@ impl Held {
 
 /// Whether an address is held where there is a bank, and what it costs to look.
 #[inline(always)]
-fn looked_up(held: &mut Option<Held>, address: u32, reach: Reach) -> (bool, u64) {
+fn looked_up(held: &mut Option<Held>, address: u32, reach: Reach, below: &Below) -> (bool, u64) {
     let Some(held) = held else {
         return (false, 0);
     };
-    let is_held = held.touch(address, reach);
+    let is_held = held.touch(address, reach, below);
     (is_held, if is_held { held.bank.hit } else { held.bank.miss })
 }
 
 /// The partitions of all labels, those of one place in one list. A set has its tags from front to back. Those of a machine
 /// from a file stand in `held`, in the order of `PLACES`.
 struct Caches {
+    below: Below,
     held: [Option<Held>; 4],
-    page: [[u32; 4]; MOST_LABELS],
-    code: [[u32; 2]; MOST_LABELS * FIRST_SETS],
-    data: [[u32; 2]; MOST_LABELS * FIRST_SETS],
-    second: [[u32; 4]; MOST_LABELS * SECOND_SETS],
+    page: [[u32; 4]; PARTITIONS],
+    code: [[u32; 2]; PARTITIONS * FIRST_SETS],
+    data: [[u32; 2]; PARTITIONS * FIRST_SETS],
+    second: [[u32; 4]; PARTITIONS * SECOND_SETS],
 }
 
+/// A power of two above the number of the empty partition.
+const PARTITIONS: usize = 64;
+
 impl Caches {
-    fn new(setting: &Setting, labels: usize) -> Self {
+    fn new(setting: &Setting, lattice: &Lattice) -> Self {
+        let (labels, mut below) = (lattice.names.len(), [0; MOST_LABELS]);
+        below[..labels].copy_from_slice(&lattice.below);
         Caches {
+            below,
             held: setting.hardware.banks.map(|bank| bank.map(|bank| Held::new(bank, labels))),
-            page: [[NO_TAG; 4]; MOST_LABELS],
-            code: [[NO_TAG; 2]; MOST_LABELS * FIRST_SETS],
-            data: [[NO_TAG; 2]; MOST_LABELS * FIRST_SETS],
-            second: [[NO_TAG; 4]; MOST_LABELS * SECOND_SETS],
+            page: [[NO_TAG; 4]; PARTITIONS],
+            code: [[NO_TAG; 2]; PARTITIONS * FIRST_SETS],
+            data: [[NO_TAG; 2]; PARTITIONS * FIRST_SETS],
+            second: [[NO_TAG; 4]; PARTITIONS * SECOND_SETS],
         }
     }
 
@@ -1995,18 +2079,18 @@ impl Caches {
     fn warm(&mut self, setting: &Setting, bottom: u8, touches: &[Touch]) {
         for &Touch { place, label, address } in touches {
             let label = if setting.hardware.is_shared { bottom } else { label };
-            let reach = Reach { others: 0, write: label, reads_own: false, read: label };
+            let (reach, below) = (Reach { read: label, write: label, own: label }, &self.below);
             match (place, setting.kind) {
                 (_, MACHINE) => {
                     if let Some(held) = &mut self.held[place as usize] {
-                        held.touch(address, reach);
+                        held.touch(address, reach, below);
                     }
                 }
                 (_, FLAT) | (Place::Second, PART) => {}
-                (Place::Page, _) => _ = touch::<1, 4>(&mut self.page, address / 1024, reach),
-                (Place::Code, _) => _ = touch::<FIRST_SETS, 2>(&mut self.code, address / 32, reach),
-                (Place::Data, _) => _ = touch::<FIRST_SETS, 2>(&mut self.data, address / 32, reach),
-                (Place::Second, _) => _ = touch::<SECOND_SETS, 4>(&mut self.second, address / 32, reach),
+                (Place::Page, _) => _ = touch::<1, 4>(&mut self.page, address / 1024, reach, below),
+                (Place::Code, _) => _ = touch::<FIRST_SETS, 2>(&mut self.code, address / 32, reach, below),
+                (Place::Data, _) => _ = touch::<FIRST_SETS, 2>(&mut self.data, address / 32, reach, below),
+                (Place::Second, _) => _ = touch::<SECOND_SETS, 4>(&mut self.second, address / 32, reach, below),
             }
         }
     }
@@ -2037,67 +2121,90 @@ impl Caches {
 
     /// What an access costs on a machine from a file.
     fn access(&mut self, place: Place, address: u32, reach: Reach) -> u64 {
-        let (_, page) = looked_up(&mut self.held[Place::Page as usize], address, reach);
-        let (is_near, line) = looked_up(&mut self.held[place as usize], address, reach);
-        let (_, second) = looked_up(&mut self.held[Place::Second as usize], address, reach);
+        let (_, page) = looked_up(&mut self.held[Place::Page as usize], address, reach, &self.below);
+        let (is_near, line) = looked_up(&mut self.held[place as usize], address, reach, &self.below);
+        let (_, second) = looked_up(&mut self.held[Place::Second as usize], address, reach, &self.below);
         page + line + if is_near { 0 } else { second }
     }
 
     #[inline(always)]
     fn fetch<const KIND: u8>(&mut self, at: usize, reach: Reach) -> u64 {
-        if KIND == FLAT {
+        let address = 4 * at as u32;
+        if KIND == FLAT || self.is_near::<KIND, true>(address, reach) {
             return 0;
         }
-        let address = 4 * at as u32;
-        if KIND == MACHINE {
-            return self.access(Place::Code, address, reach);
-        }
-        let page = touch::<1, 4>(&mut self.page, address / 1024, reach);
-        let first = touch::<FIRST_SETS, 2>(&mut self.code, address / 32, reach);
-        self.cost::<KIND>(address / 32, reach, page, first, CODE_MISS)
+        self.cost::<KIND, true>(address, reach)
     }
 
     #[inline(always)]
     fn datum<const KIND: u8>(&mut self, variable: usize, reach: Reach) -> u64 {
-        if KIND == FLAT {
+        let address = (1 << 20) + 8 * variable as u32;
+        if KIND == FLAT || self.is_near::<KIND, false>(address, reach) {
             return 0;
         }
-        let address = (1 << 20) + 8 * variable as u32;
-        if KIND == MACHINE {
-            return self.access(Place::Data, address, reach);
-        }
-        let page = touch::<1, 4>(&mut self.page, address / 1024, reach);
-        let first = touch::<FIRST_SETS, 2>(&mut self.data, address / 32, reach);
-        self.cost::<KIND>(address / 32, reach, page, first, DATA_MISS)
+        self.cost::<KIND, false>(address, reach)
     }
 
+    /// Whether the tags of an access stand in the first two ways of the write label's own partitions, and may be read there: they
+    /// come to the front, and the access costs nothing. Where not, those that were found have come to the front.
     #[inline(always)]
-    fn cost<const KIND: u8>(&mut self, line: u32, reach: Reach, page: bool, first: bool, miss: u64) -> u64 {
+    fn is_near<const KIND: u8, const IS_CODE: bool>(&mut self, address: u32, reach: Reach) -> bool {
+        if KIND == MACHINE {
+            return false;
+        }
+        let line = address / 32;
+        let first = if IS_CODE { &mut self.code } else { &mut self.data };
+        is_among_two::<1, 4>(&mut self.page, address / 1024, reach)
+            && is_among_two::<FIRST_SETS, 2>(first, line, reach)
+            && (KIND != PART2 || is_among_two::<SECOND_SETS, 4>(&mut self.second, line, reach))
+    }
+
+    /// What any access costs.
+    #[cold]
+    #[inline(never)]
+    fn cost<const KIND: u8, const IS_CODE: bool>(&mut self, address: u32, reach: Reach) -> u64 {
+        if KIND == MACHINE {
+            return self.access(if IS_CODE { Place::Code } else { Place::Data }, address, reach);
+        }
+        let (line, miss) = (address / 32, if IS_CODE { CODE_MISS } else { DATA_MISS });
+        let first = if IS_CODE { &mut self.code } else { &mut self.data };
+        let page = touch::<1, 4>(&mut self.page, address / 1024, reach, &self.below);
+        let first = touch::<FIRST_SETS, 2>(first, line, reach, &self.below);
         let mut cost = if page { 0 } else { PAGE_MISS } + if first { 0 } else { miss };
         if KIND == PART2 {
-            let second = touch::<SECOND_SETS, 4>(&mut self.second, line, reach);
+            let second = touch::<SECOND_SETS, 4>(&mut self.second, line, reach, &self.below);
             cost += if first || second { 0 } else { SECOND_MISS };
         }
         cost
     }
 }
 
-/// Whether a partition that may be read holds the tag; the write label's own gets it at its front.
+/// Whether the tag stands in one of the first two ways of its set, where it may be read: it comes to the front.
 #[inline(always)]
-fn touch<const SETS: usize, const WAYS: usize>(place: &mut [[u32; WAYS]], tag: u32, reach: Reach) -> bool {
+fn is_among_two<const SETS: usize, const WAYS: usize>(place: &mut [[u32; WAYS]], tag: u32, reach: Reach) -> bool {
+    let own = &mut place[reach.own as usize % PARTITIONS * SETS + tag as usize % SETS];
+    if own[0] == tag {
+        return true;
+    }
+    if own[1] != tag {
+        return false;
+    }
+    own.swap(0, 1);
+    true
+}
+
+/// Whether a partition that may be read holds the tag; the write label's own gets it at its front.
+fn touch<const SETS: usize, const WAYS: usize>(place: &mut [[u32; WAYS]], tag: u32, reach: Reach, below: &Below) -> bool {
     let set = tag as usize % SETS;
-    let own = &mut place[reach.write as usize % MOST_LABELS * SETS + set];
-    let mut carried = own[0];
-    if carried != tag {
-        own[0] = tag;
-        for held in &mut own[1..] {
-            std::mem::swap(held, &mut carried);
-            if carried == tag {
-                break;
-            }
+    let own = &mut place[reach.write as usize % PARTITIONS * SETS + set];
+    let mut carried = tag;
+    for held in own {
+        std::mem::swap(held, &mut carried);
+        if carried == tag {
+            break;
         }
     }
-    carried == tag && reach.reads_own || is_elsewhere::<SETS, WAYS>(place, set, tag, reach.others)
+    carried == tag && reach.reads_own() || is_elsewhere::<SETS, WAYS>(place, set, tag, reach.others(below))
 }
 
 /// Whether the set of a partition of one of these labels holds the tag.
@@ -2133,19 +2240,24 @@ impl Opened {
     }
 }
 
-/// All that a run changes; it is used for one run after the other.
+/// All that a run changes; it is used for one run after the other. There are fewer variables, and of an expression with an
+/// index fewer operands, than have room.
 struct Machine {
-    memory: Vec<i64>,
-    operands: Vec<i64>,
+    memory: Box<[i64; VARIABLES]>,
+    operands: Box<[i64; OPERANDS]>,
     labels: usize,
     bottom: u8,
-    caches: Caches,
+    caches: Box<Caches>,
     opened: Vec<Opened>,
     misses: [u32; MOST_LABELS],
     /// The clock after the last step that ended in time.
     clock: u64,
     has_halted: bool,
 }
+
+/// Powers of two, so that a number below them wants no test.
+const VARIABLES: usize = 4_096;
+const OPERANDS: usize = 1_024;
 
 /// What a run tells: a variable, its new value and its cycle; each mitigation that began, with the miss count then; and each
 /// that ended, with the cycle at which its body did, the miss counts before and after, and its cycle.
@@ -2155,22 +2267,38 @@ trait Listener {
     fn ended(&mut self, _opened: &Opened, _worked_to: u64, _misses: (u32, u32), _cycle: u64) {}
 }
 
-/// The value of an operator and what it costs beyond 1.
+/// What a product costs beyond 1.
 #[inline(always)]
-fn applied(operator: Operator, left: i64, right: i64) -> (i64, u64) {
+fn product_cost(left: i64, right: i64) -> u64 {
     let is_small = |value: i64| value == value as i16 as i64;
+    if is_small(left) && is_small(right) { 1 } else { 4 }
+}
+
+#[inline(always)]
+fn quotient(left: i64, right: i64) -> i64 {
+    if right == 0 { 0 } else { left.wrapping_div(right) }
+}
+
+#[inline(always)]
+fn remainder(left: i64, right: i64) -> i64 {
+    if right == 0 { left } else { left.wrapping_rem(right) }
+}
+
+/// The value of an operator.
+#[inline(always)]
+fn applied(operator: Operator, left: i64, right: i64) -> i64 {
     match operator {
-        Operator::Add => (left.wrapping_add(right), 0),
-        Operator::Subtract => (left.wrapping_sub(right), 0),
-        Operator::Multiply => (left.wrapping_mul(right), if is_small(left) && is_small(right) { 1 } else { 4 }),
-        Operator::Divide => (if right == 0 { 0 } else { left.wrapping_div(right) }, 16),
-        Operator::Remainder => (if right == 0 { left } else { left.wrapping_rem(right) }, 16),
-        Operator::Equal => ((left == right) as i64, 0),
-        Operator::Different => ((left != right) as i64, 0),
-        Operator::Less => ((left < right) as i64, 0),
-        Operator::AtMost => ((left <= right) as i64, 0),
-        Operator::Greater => ((left > right) as i64, 0),
-        Operator::AtLeast => ((left >= right) as i64, 0),
+        Operator::Add => left.wrapping_add(right),
+        Operator::Subtract => left.wrapping_sub(right),
+        Operator::Multiply => left.wrapping_mul(right),
+        Operator::Divide => quotient(left, right),
+        Operator::Remainder => remainder(left, right),
+        Operator::Equal => (left == right) as i64,
+        Operator::Different => (left != right) as i64,
+        Operator::Less => (left < right) as i64,
+        Operator::AtMost => (left <= right) as i64,
+        Operator::Greater => (left > right) as i64,
+        Operator::AtLeast => (left >= right) as i64,
     }
 }
 
@@ -2179,14 +2307,13 @@ fn chosen(first: u32, length: u32, index: i64) -> usize {
 }
 
 impl Machine {
-    fn new(program: &Program, image: &Image, setting: &Setting) -> Self {
-        let labels = program.lattice.names.len();
+    fn new(program: &Program, setting: &Setting) -> Self {
         Machine {
-            memory: vec![0; program.elements],
-            operands: vec![0; image.most_operands + 1],
-            labels,
+            memory: Box::new([0; VARIABLES]),
+            operands: Box::new([0; OPERANDS]),
+            labels: program.lattice.names.len(),
             bottom: program.lattice.bottom,
-            caches: Caches::new(setting, labels),
+            caches: Box::new(Caches::new(setting, &program.lattice)),
             opened: Vec::new(),
             misses: [0; MOST_LABELS],
             clock: 0,
@@ -2196,7 +2323,7 @@ impl Machine {
 
     /// Runs an image from a start to a limit.
     fn run(&mut self, setting: &Setting, code: &[Instruction], start: &Start, limit: u64, listener: &mut impl Listener) {
-        self.memory.copy_from_slice(&start.memory);
+        self.memory[..start.memory.len()].copy_from_slice(&start.memory);
         self.caches.clear(self.labels);
         self.caches.warm(setting, self.bottom, &start.touches);
         self.opened.clear();
@@ -2209,78 +2336,108 @@ impl Machine {
         }
     }
 
+    /// The last operand stands in `last`, and the others below `top`.
     #[inline(never)]
     fn steps<const KIND: u8>(&mut self, code: &[Instruction], limit: u64, listener: &mut impl Listener) {
-        let (memory, operands, caches) = (&mut self.memory[..], &mut self.operands[..], &mut self.caches);
-        let (mut at, mut top, mut last) = (0, 0, 0);
+        let (memory, operands, caches) = (&mut *self.memory, &mut *self.operands, &mut *self.caches);
+        let (mut at, mut top, mut last, mut now) = (0, 0usize, 0i64, 0);
+        macro_rules! pop {
+            () => {{
+                top -= 1;
+                operands[top % OPERANDS]
+            }};
+        }
+        macro_rules! apply {
+            ($left:ident, $value:expr) => {{
+                let $left = pop!();
+                last = $value;
+            }};
+        }
         self.has_halted = loop {
-            let Instruction { act, reach } = code[at];
-            let mut clock = last + 1 + caches.fetch::<KIND>(at, reach);
+            let Instruction { act, reach, first, value } = code[at];
+            let mut clock = now + 1 + caches.fetch::<KIND>(at, reach);
             at += 1;
             match act {
-                Act::Push(value) => {
-                    operands[top] = value;
+                Act::Push => {
+                    operands[top % OPERANDS] = last;
                     top += 1;
+                    last = value;
                 }
-                Act::Load(variable) => {
-                    clock += caches.datum::<KIND>(variable as usize, reach);
-                    operands[top] = memory[variable as usize];
+                Act::Load => {
+                    clock += caches.datum::<KIND>(first as usize, reach);
+                    operands[top % OPERANDS] = last;
                     top += 1;
+                    last = memory[first as usize % VARIABLES];
                 }
-                Act::Store(variable) => {
-                    clock += caches.datum::<KIND>(variable as usize, reach);
+                Act::Store => {
+                    clock += caches.datum::<KIND>(first as usize, reach);
                     if clock > limit {
                         break false;
                     }
-                    top -= 1;
-                    memory[variable as usize] = operands[top];
-                    listener.assigned(variable as usize, operands[top], clock);
+                    memory[first as usize % VARIABLES] = last;
+                    listener.assigned(first as usize, last, clock);
+                    last = pop!();
                 }
-                Act::LoadElement { first, length } => {
-                    let variable = chosen(first, length, operands[top - 1]);
+                Act::LoadElement => {
+                    let variable = chosen(first, value as u32, last);
                     clock += caches.datum::<KIND>(variable, reach);
-                    operands[top - 1] = memory[variable];
+                    last = memory[variable % VARIABLES];
                 }
-                Act::StoreElement { first, length } => {
-                    top -= 2;
-                    let variable = chosen(first, length, operands[top]);
+                Act::StoreElement => {
+                    let variable = chosen(first, value as u32, pop!());
                     clock += caches.datum::<KIND>(variable, reach);
                     if clock > limit {
                         break false;
                     }
-                    memory[variable] = operands[top + 1];
-                    listener.assigned(variable, operands[top + 1], clock);
+                    memory[variable % VARIABLES] = last;
+                    listener.assigned(variable, last, clock);
+                    last = pop!();
                 }
-                Act::Apply(operator) => {
-                    top -= 1;
-                    let (value, cost) = applied(operator, operands[top - 1], operands[top]);
-                    operands[top - 1] = value;
-                    clock += cost;
+                Act::Add => apply!(left, left.wrapping_add(last)),
+                Act::Subtract => apply!(left, left.wrapping_sub(last)),
+                Act::Multiply => {
+                    let left = pop!();
+                    clock += product_cost(left, last);
+                    last = left.wrapping_mul(last);
                 }
-                Act::JumpIfZero(target) => {
-                    top -= 1;
-                    if operands[top] == 0 {
-                        at = target as usize;
+                Act::Divide => {
+                    clock += 16;
+                    apply!(left, quotient(left, last));
+                }
+                Act::Remainder => {
+                    clock += 16;
+                    apply!(left, remainder(left, last));
+                }
+                Act::Equal => apply!(left, (left == last) as i64),
+                Act::Different => apply!(left, (left != last) as i64),
+                Act::Less => apply!(left, (left < last) as i64),
+                Act::AtMost => apply!(left, (left <= last) as i64),
+                Act::Greater => apply!(left, (left > last) as i64),
+                Act::AtLeast => apply!(left, (left >= last) as i64),
+                Act::JumpIfZero => {
+                    if last == 0 {
+                        at = first as usize;
                     }
+                    last = pop!();
                 }
-                Act::JumpIfNot(target) => {
-                    top -= 1;
-                    if operands[top] != 0 {
-                        at = target as usize;
+                Act::JumpIfNot => {
+                    if last != 0 {
+                        at = first as usize;
                     }
+                    last = pop!();
                 }
-                Act::Jump(target) => at = target as usize,
+                Act::Jump => at = first as usize,
                 Act::Sleep => {
-                    top -= 1;
-                    clock += operands[top].max(0) as u64;
+                    clock += last.max(0) as u64;
+                    last = pop!();
                 }
-                Act::Begin { level, mark } => {
-                    top -= 1;
+                Act::Begin => {
                     if clock > limit {
                         break false;
                     }
-                    let opened = Opened { estimate: operands[top], level, mark, begun: clock };
-                    listener.began(&opened, self.misses[level as usize]);
+                    let opened = Opened { estimate: last, level: first as u8, mark: value as u32, begun: clock };
+                    last = pop!();
+                    listener.began(&opened, self.misses[first as usize]);
                     self.opened.push(opened);
                 }
                 Act::End => match self.opened.pop() {
@@ -2297,7 +2454,7 @@ impl Machine {
                 Act::Nothing => {}
                 Act::Halt => {
                     if clock <= limit {
-                        last = clock;
+                        now = clock;
                     }
                     break clock <= limit;
                 }
@@ -2305,9 +2462,9 @@ impl Machine {
             if clock > limit {
                 break false;
             }
-            last = clock;
+            now = clock;
         };
-        self.clock = last;
+        self.clock = now;
     }
 }
 
@@ -2549,7 +2706,148 @@ fn refused<T>(what: String) -> Answer<T> {
     Err(Stop::Line(3, format!("starts: {what}\n")))
 }
 
+/// Reads a file that has nothing but a version and runs with values, in one pass; None for any other file, which the reader
+/// of TOML gets then, and for one with a fault.
+struct Quick<'t, 'p> {
+    text: &'t [u8],
+    at: usize,
+    version: u32,
+    program: &'p Program<'p>,
+    /// Of each declaration the run that gave it a value last.
+    given: Vec<usize>,
+}
+
+impl Quick<'_, '_> {
+    fn byte(&self) -> u8 {
+        self.text.get(self.at).copied().unwrap_or(0)
+    }
+
+    fn spaces(&mut self) {
+        while self.byte() == b' ' {
+            self.at += 1;
+        }
+    }
+
+    fn blank(&mut self) {
+        while matches!(self.byte(), b' ' | b'\n') {
+            self.at += 1;
+        }
+    }
+
+    fn takes(&mut self, word: &[u8]) -> Option<()> {
+        let is_there = self.text[self.at..].starts_with(word);
+        self.at += if is_there { word.len() } else { 0 };
+        is_there.then_some(())
+    }
+
+    fn number(&mut self) -> Option<i64> {
+        let is_negative = self.takes(b"-").is_some();
+        let (first, mut value) = (self.at, 0u64);
+        while let digit @ b'0'..=b'9' = self.byte() {
+            value = value.wrapping_mul(10).wrapping_add((digit - b'0') as u64);
+            self.at += 1;
+        }
+        let count = self.at - first;
+        let is_plain = matches!(count, 1..=18) && (count == 1 || self.text[first] != b'0');
+        let is_ended = matches!(self.byte(), b' ' | b',' | b'}' | b']' | b'\n');
+        (is_plain && is_ended).then_some(if is_negative { -(value as i64) } else { value as i64 })
+    }
+
+    /// The declaration whose name stands here: mostly it is the one after that before.
+    fn name(&mut self, guess: usize) -> Option<usize> {
+        let rest = &self.text[self.at..];
+        let is_part = |byte: &u8| byte.is_ascii_alphanumeric() || matches!(byte, b'_' | b'-');
+        if let Some(declaration) = self.program.declarations.get(guess) {
+            let length = declaration.name.len();
+            if rest.starts_with(declaration.name.as_bytes()) && !rest.get(length).is_some_and(is_part) {
+                self.at += length;
+                return Some(guess);
+            }
+        }
+        let length = rest.iter().take_while(|byte| is_part(byte)).count();
+        self.at += length;
+        let name = std::str::from_utf8(&rest[..length]).ok()?;
+        self.program.numbers.get(name).map(|number| *number as usize)
+    }
+
+    fn array(&mut self, values: &mut [i64]) -> Option<()> {
+        self.takes(b"[")?;
+        self.blank();
+        let mut place = 0;
+        while self.takes(b"]").is_none() {
+            *values.get_mut(place)? = self.number()?;
+            place += 1;
+            self.blank();
+            if self.takes(b",").is_none() {
+                return self.takes(b"]");
+            }
+            self.blank();
+        }
+        Some(())
+    }
+
+    fn memory(&mut self, run: usize) -> Option<Vec<i64>> {
+        let mut memory = vec![0; self.program.elements];
+        self.takes(b"memory = {")?;
+        self.spaces();
+        let mut guess = 0;
+        if self.takes(b"}").is_some() {
+            return Some(memory);
+        }
+        loop {
+            let number = self.name(guess)?;
+            guess = number + 1;
+            if std::mem::replace(&mut self.given[number], run) == run {
+                return None;
+            }
+            self.spaces();
+            self.takes(b"=")?;
+            self.spaces();
+            let declaration = &self.program.declarations[number];
+            let first = declaration.first as usize;
+            match declaration.length {
+                None => memory[first] = self.number()?,
+                Some(length) if self.version == 2 => self.array(&mut memory[first..first + length as usize])?,
+                Some(_) => return None,
+            }
+            self.spaces();
+            if self.takes(b",").is_none() {
+                self.takes(b"}")?;
+                return Some(memory);
+            }
+            self.spaces();
+        }
+    }
+
+    fn starts(&mut self) -> Option<Vec<Start>> {
+        self.blank();
+        if self.takes(b"version = ").is_some() {
+            self.version = u32::try_from(self.number()?).ok().filter(|version| matches!(version, 1 | 2))?;
+            self.takes(b"\n")?;
+        }
+        let mut starts = Vec::new();
+        self.blank();
+        while self.at < self.text.len() {
+            self.takes(b"[[run]]\n")?;
+            self.blank();
+            let run = starts.len() + 1;
+            let is_empty = self.at == self.text.len() || self.byte() == b'[';
+            let memory = if is_empty { vec![0; self.program.elements] } else { self.memory(run)? };
+            if !is_empty && self.at < self.text.len() {
+                self.takes(b"\n")?;
+            }
+            starts.push(Start { memory, touches: Vec::new() });
+            self.blank();
+        }
+        matches!(starts.len(), 1..=MOST_RUNS).then_some(starts)
+    }
+}
+
 fn starts_of(text: &str, program: &Program, takes_spaces: bool) -> Answer<Vec<Start>> {
+    let given = vec![0; program.declarations.len()];
+    if let Some(starts) = (Quick { text: text.as_bytes(), at: 0, version: 1, program, given }).starts() {
+        return Ok(starts);
+    }
     let document = Toml { text, at: 0 }.document()?;
     let version = match document.get("version") {
         None | Some(Value::Integer(1)) => 1,
@@ -2660,11 +2958,16 @@ fn hardware_of(text: &str) -> Answer<Hardware> {
         _ => return refused_machine("sharing".into()),
     };
     let mut numbers = [None; 4];
+    let mut first_come = [false; 4];
     for (place, (name, _)) in PLACES.iter().enumerate() {
         if let Some(value) = document.get(name) {
             match bank_numbers(value) {
                 None => return refused_machine(format!("{name}: not a bank")),
                 found => numbers[place] = found,
+            }
+            match is_first_come(value) {
+                None => return refused_machine(format!("{name}: replace")),
+                Some(found) => first_come[place] = found,
             }
         }
     }
@@ -2675,8 +2978,8 @@ fn hardware_of(text: &str) -> Answer<Hardware> {
             if let Some((what, ..)) = limits.iter().find(|(_, number, most)| !(1..=*most).contains(number)) {
                 return refused_machine(format!("{name}: {what}"));
             }
-            hardware.banks[place] =
-                Some(Bank { sets: sets as u32, ways: ways as u32, bytes: bytes as u32, hit: hit as u64, miss: miss as u64 });
+            let (sets, ways, bytes, hit, miss) = (sets as u32, ways as u32, bytes as u32, hit as u64, miss as u64);
+            hardware.banks[place] = Some(Bank { sets, ways, bytes, hit, miss, is_first_come: first_come[place] });
         }
     }
     let [page, code, data, second] = hardware.banks.map(|bank| bank.map_or(0, |bank| bank.hit.max(bank.miss)));
@@ -2698,21 +3001,138 @@ fn bank_numbers(value: &Value) -> Option<[i64; 5]> {
             _ => return None,
         }
     }
-    (table.len() == 5).then_some(numbers)
+    (table.len() == 5 + usize::from(table.contains_key("replace"))).then_some(numbers)
+}
+
+/// Whether a bank names the rule of the first that came; none where it names no rule that there is.
+fn is_first_come(value: &Value) -> Option<bool> {
+    let Value::Table(table) = value else {
+        return None;
+    };
+    match table.get("replace") {
+        None | Some(Value::Text("lru")) => Some(false),
+        Some(Value::Text("fifo")) => Some(true),
+        _ => None,
+    }
 }
 
 // --- The untimed meaning
+
+/// An expression: most have one part or an operator with two. Variables have their numbers.
+#[derive(Clone, Copy)]
+enum Worth {
+    One(Leaf),
+    Two(Operator, Leaf, Leaf),
+    Parts(Expression),
+}
+
+#[derive(Clone, Copy)]
+enum Leaf {
+    Number(i64),
+    Variable(u32),
+}
+
+/// A command, in one row with all others; `next` is the place of the one after it, and a choice has that of its other branch.
+#[derive(Clone, Copy)]
+struct Deed {
+    form: Step,
+    worth: Worth,
+    next: u32,
+}
+
+#[derive(Clone, Copy)]
+enum Step {
+    Pass,
+    Assign { variable: u32 },
+    Put { first: u32, length: u32, index: Expression },
+    Choose { other: u32 },
+}
+
+/// The place after the last command.
+const ENDED: u32 = u32::MAX;
 
 struct Meaning<'p> {
     program: &'p Program<'p>,
     memory: Vec<i64>,
     operands: Vec<i64>,
-    owners: Vec<u32>,
-    out: Vec<u8>,
+    deeds: Vec<Deed>,
 }
 
 impl Meaning<'_> {
-    fn value(&mut self, expression: Expression) -> i64 {
+    /// Adds the commands of a list, and gives the place of the first one.
+    fn list(&mut self, commands: &[Command], next: u32) -> u32 {
+        let mut after = next;
+        for command in commands.iter().rev() {
+            after = self.command(command, after);
+        }
+        after
+    }
+
+    /// Adds a command that `next` comes after, and gives its place.
+    fn command(&mut self, command: &Command, next: u32) -> u32 {
+        let worth = self.worth(command.value);
+        let (form, next) = match &command.form {
+            Form::Skip | Form::Sleep => (Step::Pass, next),
+            Form::Assign { to } => (Step::Assign { variable: self.program.declarations[*to as usize].first }, next),
+            Form::Put { to, index } => {
+                let declaration = &self.program.declarations[*to as usize];
+                let length = declaration.length.unwrap_or(1);
+                (Step::Put { first: declaration.first, length, index: *index }, next)
+            }
+            Form::If { yes, no } => {
+                let other = self.list(no, next);
+                (Step::Choose { other }, self.list(yes, next))
+            }
+            Form::While { body, .. } => {
+                let place = self.deeds.len();
+                self.deeds.push(Deed { form: Step::Choose { other: next }, worth, next });
+                self.deeds[place].next = self.list(body, place as u32);
+                return place as u32;
+            }
+            Form::Mitigate { body, .. } => (Step::Pass, self.list(body, next)),
+        };
+        self.deeds.push(Deed { form, worth, next });
+        self.deeds.len() as u32 - 1
+    }
+
+    fn leaf(&self, part: Part) -> Option<Leaf> {
+        match part {
+            Part::Number(value) => Some(Leaf::Number(value)),
+            Part::Variable { declaration, .. } => Some(Leaf::Variable(self.program.declarations[declaration as usize].first)),
+            _ => None,
+        }
+    }
+
+    fn worth(&self, expression: Expression) -> Worth {
+        let found = match *self.program.parts_of(expression) {
+            [one] => self.leaf(one).map(Worth::One),
+            [left, right, Part::Apply { operator, .. }] => {
+                self.leaf(left).zip(self.leaf(right)).map(|(left, right)| Worth::Two(operator, left, right))
+            }
+            _ => None,
+        };
+        found.unwrap_or(Worth::Parts(expression))
+    }
+
+    #[inline(always)]
+    fn leaf_value(&self, leaf: Leaf) -> i64 {
+        match leaf {
+            Leaf::Number(value) => value,
+            Leaf::Variable(variable) => self.memory[variable as usize],
+        }
+    }
+
+    #[inline(always)]
+    fn value(&mut self, worth: Worth) -> i64 {
+        match worth {
+            Worth::One(leaf) => self.leaf_value(leaf),
+            Worth::Two(operator, left, right) => applied(operator, self.leaf_value(left), self.leaf_value(right)),
+            Worth::Parts(expression) => self.whole(expression),
+        }
+    }
+
+    #[inline(never)]
+    fn whole(&mut self, expression: Expression) -> i64 {
         self.operands.clear();
         for part in self.program.parts_of(expression) {
             match *part {
@@ -2723,99 +3143,59 @@ impl Meaning<'_> {
                 }
                 Part::Element { declaration, .. } => {
                     let index = self.operands.pop().unwrap_or(0);
-                    self.operands.push(self.memory[self.element(declaration, index)]);
+                    let declaration = &self.program.declarations[declaration as usize];
+                    let place = chosen(declaration.first, declaration.length.unwrap_or(1), index);
+                    self.operands.push(self.memory[place]);
                 }
                 Part::Apply { operator, .. } => {
                     let right = self.operands.pop().unwrap_or(0);
                     let left = self.operands.pop().unwrap_or(0);
-                    self.operands.push(applied(operator, left, right).0);
+                    self.operands.push(applied(operator, left, right));
                 }
             }
         }
         self.operands.pop().unwrap_or(0)
     }
 
-    fn element(&self, declaration: u32, index: i64) -> usize {
-        let declaration = &self.program.declarations[declaration as usize];
-        chosen(declaration.first, declaration.length.unwrap_or(1), index)
-    }
-
-    fn assign(&mut self, variable: usize, value: i64) {
-        self.memory[variable] = value;
-        self.program.write_variable(&self.owners, variable, &mut self.out);
-        self.out.extend_from_slice(b" = ");
-        write_signed(value, &mut self.out);
-        self.out.push(b'\n');
-        if self.out.len() >= FULL {
-            send(&self.out);
-            self.out.clear();
-        }
-    }
-
     /// Takes at most so many steps, and writes each assignment and the last line.
     fn steps(&mut self, steps: u64) {
-        let program = self.program;
-        let mut waiting: Vec<(&[Command], usize)> = vec![(&program.body, 0)];
-        let mut taken = 0;
-        loop {
-            while waiting.last().is_some_and(|(commands, next)| *next == commands.len()) {
-                waiting.pop();
-            }
-            let Some((commands, next)) = waiting.last_mut() else {
-                self.out.extend_from_slice(b"ended after ");
-                break;
-            };
-            if taken == steps {
-                self.out.extend_from_slice(b"not ended after ");
-                break;
-            }
+        let (program, mut lines) = (self.program, Lines::new(self.program));
+        let (mut at, mut taken) = (self.list(&program.body, ENDED), 0);
+        while at != ENDED && taken < steps {
             taken += 1;
-            let command = &commands[*next];
-            *next += 1;
-            match &command.form {
-                Form::Skip | Form::Sleep => {}
-                Form::Assign { to } => {
-                    let value = self.value(command.value);
-                    self.assign(program.declarations[*to as usize].first as usize, value);
-                }
-                Form::Put { to, index } => {
-                    let (index, value) = (self.value(*index), self.value(command.value));
-                    self.assign(self.element(*to, index), value);
-                }
-                Form::If { yes, no } => {
-                    let branch = if self.value(command.value) != 0 { yes } else { no };
-                    waiting.push((branch, 0));
-                }
-                Form::While { body, .. } => {
-                    if self.value(command.value) != 0 {
-                        *next -= 1;
-                        waiting.push((body, 0));
+            let Deed { form, worth, next } = self.deeds[at as usize];
+            at = next;
+            let (variable, value) = match form {
+                Step::Pass => continue,
+                Step::Choose { other } => {
+                    if self.value(worth) == 0 {
+                        at = other;
                     }
+                    continue;
                 }
-                Form::Mitigate { body, .. } => waiting.push((body, 0)),
-            }
+                Step::Assign { variable } => (variable as usize, self.value(worth)),
+                Step::Put { first, length, index } => {
+                    let index = self.whole(index);
+                    (chosen(first, length, index), self.value(worth))
+                }
+            };
+            self.memory[variable] = value;
+            lines.line(variable, value, None);
         }
-        write_number(taken, &mut self.out);
-        self.out.extend_from_slice(b" steps\n");
-        send(&self.out);
+        lines.end(if at == ENDED { "ended after " } else { "not ended after " }, taken, " steps\n");
     }
 }
 
 fn meaning(program: &Program, start: &Start, steps: u64) {
-    let mut meaning = Meaning {
-        program,
-        memory: start.memory.clone(),
-        operands: Vec::new(),
-        owners: program.owners(),
-        out: Vec::with_capacity(2 * FULL),
-    };
-    meaning.steps(steps);
+    let deeds = Vec::with_capacity(program.commands);
+    Meaning { program, memory: start.memory.clone(), operands: Vec::new(), deeds }.steps(steps);
 }
 
 // --- Made programs
 
 /// The text of a made program, and its four starts.
 fn made(size: u64, number: u64) -> (String, Vec<Start>) {
+    use std::fmt::Write;
     let mut state = number;
     let mut draw = |below: u64| {
         state = (state * 1_103_515_245 + 12_345) % (1 << 31);
@@ -2831,11 +3211,11 @@ fn made(size: u64, number: u64) -> (String, Vec<Start>) {
         let (kind, a, b, c) = (draw(4), draw(4), draw(4), draw(100));
         let d = c + 1;
         text += if unit == 0 { "" } else { ";\n" };
-        text += &match kind {
-            0 => format!("l{a} := l{b} + {c}"),
-            1 => format!("mitigate ({d}, H) {{ h{a} := (h{b} + {c}) % 16 }}"),
-            2 => format!("mitigate ({d}, H) {{ while h{a} > 0 do {{ h{a} := h{a} - 1 }} }}"),
-            _ => format!("if l{a} > {c} then {{ l{b} := l{a} - {c} }} else {{ l{a} := l{a} + 1 }}"),
+        let _ = match kind {
+            0 => write!(text, "l{a} := l{b} + {c}"),
+            1 => write!(text, "mitigate ({d}, H) {{ h{a} := (h{b} + {c}) % 16 }}"),
+            2 => write!(text, "mitigate ({d}, H) {{ while h{a} > 0 do {{ h{a} := h{a} - 1 }} }}"),
+            _ => write!(text, "if l{a} > {c} then {{ l{b} := l{a} - {c} }} else {{ l{a} := l{a} + 1 }}"),
         };
     }
     text.push('\n');
@@ -2858,36 +3238,62 @@ fn gen_made(size: u64, number: u64) -> Answer<()> {
 
 // --- The black box
 
-fn ready_runs(text: &[u8]) -> Answer<Vec<Vec<u64>>> {
-    let mut runs: Vec<Vec<u64>> = Vec::new();
-    for (place, line) in text.split(|byte| *byte == b'\n').enumerate() {
-        let is_space = |byte: &&u8| matches!(byte, b' ' | b'\t' | b'\r');
-        let first = line.iter().take_while(is_space).count();
-        let line = &line[first..];
-        let line = &line[..line.len() - line.iter().rev().take_while(is_space).count()];
-        let is_number = (1..=20).contains(&line.len()) && line.iter().all(u8::is_ascii_digit);
-        let value = line.iter().fold(0u128, |value, digit| 10 * value + digit.wrapping_sub(b'0') as u128);
-        match runs.last_mut() {
-            _ if line.is_empty() => {}
-            _ if line == b"run" => runs.push(Vec::new()),
-            Some(run) if is_number && value <= GREATEST_BUDGET as u128 => run.push(value as u64),
-            _ => return Err(Stop::Line(3, format!("ready: bad line {}\n", place + 1))),
+/// The ready cycles of all runs in one row, and where those of each run end in it.
+struct ReadyRuns {
+    cycles: Vec<u64>,
+    ends: Vec<usize>,
+}
+
+fn ready_runs(text: &[u8]) -> Answer<ReadyRuns> {
+    let mut runs = ReadyRuns { cycles: Vec::with_capacity(text.len() / 4), ends: Vec::new() };
+    let (mut rest, mut place) = (text, 0);
+    loop {
+        place += 1;
+        let end = rest.iter().position(|byte| *byte == b'\n');
+        let mut line = &rest[..end.unwrap_or(rest.len())];
+        while let [b' ' | b'\t' | b'\r', more @ ..] = line {
+            line = more;
+        }
+        while let [more @ .., b' ' | b'\t' | b'\r'] = line {
+            line = more;
+        }
+        match line {
+            [] => {}
+            b"run" => runs.ends.push(runs.cycles.len()),
+            _ => {
+                let is_number = line.len() <= 20 && line.iter().all(u8::is_ascii_digit);
+                let value = line.iter().fold(0u128, |value, digit| 10 * value + digit.wrapping_sub(b'0') as u128);
+                match runs.ends.last_mut() {
+                    Some(end) if is_number && value <= GREATEST_BUDGET as u128 => {
+                        runs.cycles.push(value as u64);
+                        *end += 1;
+                    }
+                    _ => return Err(Stop::Line(3, format!("ready: bad line {place}\n"))),
+                }
+            }
+        }
+        match end {
+            Some(end) => rest = &rest[end + 1..],
+            None => break,
         }
     }
-    match runs.len() {
+    match runs.ends.len() {
         0 => Err(Stop::Line(3, "ready: no runs\n".into())),
         1..=MOST_RUNS => Ok(runs),
         count => Err(Stop::Line(3, format!("ready: too many runs: {count}\n"))),
     }
 }
 
-fn black_box(runs: &[Vec<u64>], first: u64, budget: u64) {
-    let (mut out, mut last) = (Vec::new(), String::new());
-    let mut classes: HashMap<Vec<u64>, usize> = HashMap::new();
-    for (place, ready) in runs.iter().enumerate() {
-        let (mut released, mut epochs, mut length, mut slot) = (Vec::new(), 1, first, first);
+fn black_box(runs: &ReadyRuns, first: u64, budget: u64) {
+    let (mut out, mut last, mut begun) = (Vec::with_capacity(8 * runs.cycles.len()), Vec::new(), 0);
+    let (mut released, mut ranges) = (Vec::with_capacity(runs.cycles.len()), Vec::new());
+    let mut classes: HashMap<u64, Vec<usize>, BuildHasherDefault<NameHasher>> = HashMap::default();
+    for (place, end) in runs.ends.iter().enumerate() {
+        let (ready, from) = (&runs.cycles[begun..*end], released.len());
+        let (mut epochs, mut length, mut slot) = (1u64, first, first);
+        begun = *end;
         while slot <= budget {
-            if ready.get(released.len()).is_some_and(|cycle| *cycle <= slot) {
+            if ready.get(released.len() - from).is_some_and(|cycle| *cycle <= slot) {
                 released.push(slot);
             } else {
                 epochs += 1;
@@ -2895,8 +3301,8 @@ fn black_box(runs: &[Vec<u64>], first: u64, budget: u64) {
             }
             slot += length;
         }
-        let number = place as u64 + 1;
-        for (event, cycle) in released.iter().enumerate() {
+        let (number, own) = (place as u64 + 1, &released[from..]);
+        for (event, cycle) in own.iter().enumerate() {
             out.extend_from_slice(b"run ");
             write_number(number, &mut out);
             out.extend_from_slice(b" event ");
@@ -2905,50 +3311,121 @@ fn black_box(runs: &[Vec<u64>], first: u64, budget: u64) {
             write_number(*cycle, &mut out);
             out.push(b'\n');
         }
-        let (events, count, next) = (ready.len(), released.len(), classes.len() + 1);
-        let class = *classes.entry(released).or_insert(next);
-        last += &format!("run {number} events {events} released {count} epochs {epochs} class {class}\n");
+        let (events, count) = (ready.len(), own.len());
+        let hash = own.iter().fold(0u64, |hash, cycle| (hash.rotate_left(5) ^ cycle).wrapping_mul(0x9e37_79b9_7f4a_7c15));
+        let alike = classes.entry(hash).or_default();
+        let is_same = |class: &&usize| {
+            let (first, end): (usize, usize) = ranges[**class];
+            released[first..end] == *own
+        };
+        let class = match alike.iter().find(is_same) {
+            Some(class) => *class,
+            None => {
+                alike.push(ranges.len());
+                ranges.push((from, released.len()));
+                ranges.len() - 1
+            }
+        };
+        if ranges[class].0 != from {
+            released.truncate(from);
+        }
+        let told = [(&b"run "[..], number), (b" events ", events as u64), (b" released ", count as u64), (b" epochs ", epochs), (b" class ", class as u64 + 1)];
+        for (word, number) in told {
+            last.extend_from_slice(word);
+            write_number(number, &mut last);
+        }
+        last.push(b'\n');
     }
-    let (count, distinct, base, digits) = (runs.len(), classes.len(), budget + 1, u64::BITS - budget.leading_zeros());
+    let (count, distinct, base, digits) = (runs.ends.len(), ranges.len(), budget + 1, u64::BITS - budget.leading_zeros());
     let middle = format!("runs {count}\nfirst {first}\nbudget {budget}\ndistinct {distinct}\nbound {base}^{digits}\n");
     out.extend_from_slice(middle.as_bytes());
-    out.extend_from_slice(last.as_bytes());
+    out.extend_from_slice(&last);
     send(&out);
 }
 
 // --- Commands
 
 /// Prints each event that is shown.
-struct EventPrinter<'p> {
-    program: &'p Program<'p>,
-    owners: Vec<u32>,
+struct EventPrinter {
     is_shown: Vec<bool>,
-    out: Vec<u8>,
+    lines: Lines,
 }
 
 const FULL: usize = 1 << 16;
+/// No line of a variable is as long.
+const LINE: usize = 128;
+const NAME: usize = 48;
 
-impl Listener for EventPrinter<'_> {
-    #[inline(always)]
-    fn assigned(&mut self, variable: usize, value: i64, cycle: u64) {
-        if self.is_shown[variable] {
-            self.print(variable, value, cycle);
+/// Lines that wait to be written, in a row that always has room for one more.
+struct Lines {
+    bytes: Box<[u8; FULL + LINE]>,
+    length: usize,
+    /// Of each variable, elements included, how its line begins, and the length of that.
+    names: Vec<([u8; NAME], u8)>,
+}
+
+impl Lines {
+    fn new(program: &Program) -> Self {
+        let (owners, mut name, mut names) = (program.owners(), Vec::new(), Vec::with_capacity(program.elements));
+        for variable in 0..program.elements {
+            name.clear();
+            program.write_variable(&owners, variable, &mut name);
+            name.extend_from_slice(b" = ");
+            let mut row = [0; NAME];
+            row[..name.len()].copy_from_slice(&name);
+            names.push((row, name.len() as u8));
         }
+        Lines { bytes: Box::new([0; FULL + LINE]), length: 0, names }
+    }
+
+    /// Writes a variable, its value, and its cycle if there is one.
+    fn line(&mut self, variable: usize, value: i64, cycle: Option<u64>) {
+        let (name, length) = &self.names[variable];
+        let line: &mut [u8; LINE] = (&mut self.bytes[self.length..self.length + LINE]).try_into().unwrap();
+        line[..NAME].copy_from_slice(name);
+        let mut at = *length as usize;
+        if value < 0 {
+            line[at] = b'-';
+            at += 1;
+        }
+        at = put_number(value.unsigned_abs(), line, at);
+        if let Some(cycle) = cycle {
+            line[at..at + 2].copy_from_slice(b" @");
+            at = put_number(cycle, line, at + 2);
+        }
+        line[at] = b'\n';
+        self.length += at + 1;
+        if self.length >= FULL {
+            send(&self.bytes[..self.length]);
+            self.length = 0;
+        }
+    }
+
+    /// Writes the last line, a word before a number and one behind it.
+    fn end(self, before: &str, number: u64, behind: &str) {
+        let mut out = self.bytes[..self.length].to_vec();
+        out.extend_from_slice(before.as_bytes());
+        write_number(number, &mut out);
+        out.extend_from_slice(behind.as_bytes());
+        send(&out);
     }
 }
 
-impl EventPrinter<'_> {
-    #[inline(never)]
-    fn print(&mut self, variable: usize, value: i64, cycle: u64) {
-        self.program.write_variable(&self.owners, variable, &mut self.out);
-        self.out.extend_from_slice(b" = ");
-        write_signed(value, &mut self.out);
-        self.out.extend_from_slice(b" @");
-        write_number(cycle, &mut self.out);
-        self.out.push(b'\n');
-        if self.out.len() >= FULL {
-            send(&self.out);
-            self.out.clear();
+/// Puts the digits of a number into a line: the place behind them.
+#[inline(always)]
+fn put_number(value: u64, line: &mut [u8; LINE], at: usize) -> usize {
+    let mut digits = [0; 20];
+    let first = digits_of(value, &mut digits);
+    let count = 20 - first;
+    line[at..at + count].copy_from_slice(&digits[first..]);
+    at + count
+}
+
+impl Listener for EventPrinter {
+    #[inline(always)]
+    fn assigned(&mut self, variable: usize, value: i64, cycle: u64) {
+        if self.is_shown[variable] {
+            self.lines.line(variable, value, Some(cycle));
         }
     }
 }
@@ -2973,14 +3450,10 @@ fn run(labelled: &Labelled, image: &Image, start: &Start, words: &Words, observe
     let program = &labelled.program;
     let owners = program.owners();
     let is_shown = shown(labelled, &owners, observer);
-    let mut printer = EventPrinter { program, owners, is_shown, out: Vec::with_capacity(2 * FULL) };
-    let mut machine = Machine::new(program, image, &words.setting);
+    let mut printer = EventPrinter { is_shown, lines: Lines::new(program) };
+    let mut machine = Machine::new(program, &words.setting);
     machine.run(&words.setting, &image.code, start, words.budget, &mut printer);
-    let mut out = printer.out;
-    out.extend_from_slice(if machine.has_halted { b"end @" } else { b"limit @" });
-    write_number(machine.clock, &mut out);
-    out.push(b'\n');
-    send(&out);
+    printer.lines.end(if machine.has_halted { "end @" } else { "limit @" }, machine.clock, "\n");
     if machine.has_halted {
         0
     } else {
@@ -2988,7 +3461,11 @@ fn run(labelled: &Labelled, image: &Image, start: &Start, words: &Words, observe
     }
 }
 
-type Event = (u32, i64, u64);
+/// An event that is shown: its cycle above the number of its variable, and its value.
+type Event = (u64, i64);
+
+/// The bits of the number of a variable: cycles have at most 41.
+const VARIABLE_BITS: u32 = 12;
 
 /// The events that the observer sees, those of each different run once, and the numbers of relevant mitigations that
 /// began and ended in the run at hand: all, and for each level those that began. `firsts` has for each level the least first
@@ -3008,7 +3485,7 @@ struct Watch {
 impl Listener for Watch {
     fn assigned(&mut self, variable: usize, value: i64, cycle: u64) {
         if self.is_shown[variable] {
-            self.events.push((variable as u32, value, cycle));
+            self.events.push((cycle << VARIABLE_BITS | variable as u64, value));
         }
     }
 
@@ -3032,16 +3509,24 @@ impl Listener for Watch {
     }
 }
 
-/// The different sequences in the order in which they came: where each lies, and which have a hash.
+/// The different sequences in the order in which they came: where each lies, and which have a hash. `last` is the class that
+/// was found last.
 #[derive(Default)]
 struct Classes {
     ranges: Vec<(usize, usize)>,
-    by_hash: HashMap<u64, Vec<usize>>,
+    by_hash: HashMap<u64, Vec<usize>, BuildHasherDefault<NameHasher>>,
+    last: usize,
 }
 
 impl Classes {
     /// The class of the sequence that begins at `first` and is the last one; a known one is dropped.
     fn class_of(&mut self, events: &mut Vec<Event>, first: usize) -> usize {
+        if let Some(&(from, to)) = self.ranges.get(self.last) {
+            if events[from..to] == events[first..] {
+                events.truncate(first);
+                return self.last;
+            }
+        }
         let alike = self.by_hash.entry(hash_of(&events[first..])).or_default();
         let is_same = |class: &&usize| {
             let (from, to) = self.ranges[**class];
@@ -3049,17 +3534,19 @@ impl Classes {
         };
         if let Some(&class) = alike.iter().find(is_same) {
             events.truncate(first);
+            self.last = class;
             return class;
         }
-        alike.push(self.ranges.len());
+        self.last = self.ranges.len();
+        alike.push(self.last);
         self.ranges.push((first, events.len()));
-        self.ranges.len() - 1
+        self.last
     }
 }
 
 fn hash_of(events: &[Event]) -> u64 {
     let mix = |hash: u64, word: u64| (hash.rotate_left(5) ^ word).wrapping_mul(0x9e37_79b9_7f4a_7c15);
-    events.iter().fold(0, |hash, event| mix(hash, mix(event.0 as u64 ^ event.2 << 12, event.1 as u64)))
+    events.iter().fold(0, |hash, event| mix(hash, event.0 ^ (event.1 as u64).wrapping_mul(0x2545_f491_4f6c_dd1d)))
 }
 
 /// What an audit is asked; one that is cut counts what is seen up to the budget, halted or not.
@@ -3107,7 +3594,7 @@ fn audit(labelled: &Labelled, image: &Image, starts: &[Start], asked: &Asked) ->
         places: [0; MOST_LABELS],
         ended: 0,
     };
-    let mut machine = Machine::new(program, image, asked.setting);
+    let mut machine = Machine::new(program, asked.setting);
     let (mut classes, mut of_runs, mut total) = (Classes::default(), Vec::new(), 0);
     let (mut begun, mut begun_of, mut most_ended, mut halted) = (0, [0; MOST_LABELS], 0, 0);
     for (number, start) in starts.iter().enumerate() {
@@ -3148,9 +3635,15 @@ impl Audit {
         };
         let (count, observer, budget, distinct) = (self.of_runs.len(), lattice.name(asked.observer), asked.budget, self.ranges.len());
         let mut out = format!("runs {count}\nobserver {observer}\nbudget {budget}\n{levels}{middle}distinct {distinct}\n{bound}\n");
+        let mut lines = Vec::with_capacity(24 * self.of_runs.len());
         for (number, class) in self.of_runs.iter().enumerate() {
-            out += &format!("run {} class {}\n", number + 1, class + 1);
+            lines.extend_from_slice(b"run ");
+            write_number(number as u64 + 1, &mut lines);
+            lines.extend_from_slice(b" class ");
+            write_number(*class as u64 + 1, &mut lines);
+            lines.push(b'\n');
         }
+        out += &String::from_utf8_lossy(&lines);
         out
     }
 }
@@ -3159,7 +3652,7 @@ impl Audit {
 fn agreed(program: &Program, starts: &[Start], owners: &[u32], is_shown: &[bool], asked: &Asked) -> Answer<()> {
     let lattice = &program.lattice;
     let caches = |start: &Start| {
-        let mut caches = Box::new(Caches::new(asked.setting, lattice.names.len()));
+        let mut caches = Box::new(Caches::new(asked.setting, lattice));
         caches.warm(asked.setting, lattice.bottom, &start.touches);
         caches
     };
@@ -3276,7 +3769,7 @@ fn told_of_runs(labelled: &Labelled, image: &Image, starts: &[Start], words: &Wo
     let signs = if has_moments { [" = ", " @", "\n"] } else { ["=", "@", " "] };
     let ends = vec![(0, 0, 0, 0); marks];
     let mut teller = Teller { labelled, owners, is_shown, signs, has_moments, places, ends, out: Vec::new() };
-    let mut machine = Machine::new(program, image, &words.setting);
+    let mut machine = Machine::new(program, &words.setting);
     for (number, start) in (1..).zip(starts) {
         let head = if has_moments { format!("run {number}\n") } else { format!("{number}\t") };
         teller.out.extend_from_slice(head.as_bytes());
@@ -3477,8 +3970,9 @@ fn leak_text(labelled: &Labelled, audit: &Audit, asked: &Asked) -> String {
     let owners = labelled.program.owners();
     for (class, (from, to)) in audit.ranges.iter().enumerate() {
         let mut field = Vec::new();
-        for (variable, value, cycle) in &audit.events[*from..*to] {
-            labelled.program.write_variable(&owners, *variable as usize, &mut field);
+        for (place, value) in &audit.events[*from..*to] {
+            let (variable, cycle) = (place % (1 << VARIABLE_BITS), place >> VARIABLE_BITS);
+            labelled.program.write_variable(&owners, variable as usize, &mut field);
             field.extend_from_slice(format!("={value}@{cycle} ").as_bytes());
         }
         let field = String::from_utf8_lossy(&field);

@@ -10,7 +10,8 @@ export const PLACES = ['page', 'code', 'data', 'second'];
 export function hardwareOf(text) {
   const file = text === null ? new Map() : readToml(text), banks = {};
   for (const place of PLACES.filter((name) => file.has(name))) {
-    banks[place] = Object.fromEntries([...file.get(place)].map(([key, value]) => [key, Number(value)]));
+    const read = ([key, value]) => [key, key === 'replace' ? value : Number(value)];
+    banks[place] = Object.fromEntries([...file.get(place)].map(read));
   }
   return { isShared: file.get('sharing') === 'shared', banks };
 }
@@ -31,7 +32,7 @@ export function belowOf({ names, pairs }) {
 }
 
 /** What the caches of a machine hold. Of each place and label it keeps the tags of each set, the latest touched
-    first. */
+    first, or, where a bank replaces the first that came, the latest that came. */
 export class Caches {
   constructor({ isShared, banks }, order) {
     Object.assign(this, { banks, held: {} });
@@ -46,7 +47,7 @@ export class Caches {
     this.serving = new Map(order.names.map((name) => [name, [...below.get(this.home(name))]]));
   }
 
-  /** The tags of a label's partition at a place that stand in one set, the latest touched first. */
+  /** The tags of a label's partition at a place that stand in one set. */
   rowOf(place, label, set) {
     return this.held[place].get(label)[set];
   }
@@ -56,12 +57,13 @@ export class Caches {
     return this.serving.get(er).some((label) => this.rowOf(place, label, tag % sets).includes(tag));
   }
 
-  /** A touch at a place: the tag is the latest one in its set of the label's partition. */
+  /** A touch at a place: the tag is the latest one in its set of the label's partition. Where the first that came goes
+      first, a tag that is there stays in its place. */
   touch(place, ew, address) {
     if (!this.banks[place]) return;
-    const { bytes, sets, ways } = this.banks[place], tag = Math.floor(address / bytes), label = this.home(ew);
+    const { bytes, sets, ways, replace } = this.banks[place], tag = Math.floor(address / bytes), label = this.home(ew);
     const row = this.rowOf(place, label, tag % sets), at = row.indexOf(tag);
-    if (at === 0) return;
+    if (at === 0 || (at > 0 && replace === 'fifo')) return;
     if (at > 0) row.splice(at, 1);
     row.unshift(tag);
     if (row.length > ways) row.pop();

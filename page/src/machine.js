@@ -55,8 +55,9 @@ const WORDS = {
   'unknown key': `a key is none of ${KEYS.slice(0, -1).join(', ')} and ${KEYS.at(-1)}`,
   sharing: 'sharing = "partitioned" or sharing = "shared" has to be there',
   'not a bank': `is no bank: ${BANK}`,
-  sets: 'has 1 to 64 sets',
+  sets: 'has 1 to 4\u202f096 sets',
   ways: 'has 1 to 8 ways in each set',
+  replace: 'replaces by replace = "lru" or replace = "fifo"',
   bytes: 'has lines of at least one byte',
 };
 

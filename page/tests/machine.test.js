@@ -58,8 +58,9 @@ test('a refusal of a machine has its words, and the line where it stands', () =>
   assert.equal(fault(SHARED, 'machine: sharing')[0], 3);
   assert.match(fault('version = 1\ncode = 3\n', 'machine: code: not a bank').join(' '), /^2 code is no bank: /);
   assert.deepEqual(fault(SHARED, 'machine: code: ways'), [4, 'code has 1 to 8 ways in each set']);
-  const long = 'version = 1\n[data]\nways = 1\nsets = 99\n';
-  assert.deepEqual(fault(long, 'machine: data: sets'), [4, 'data has 1 to 64 sets']);
+  const long = 'version = 1\n[data]\nways = 1\nsets = 4097\nreplace = "oldest"\n';
+  assert.deepEqual(fault(long, 'machine: data: sets'), [4, 'data has 1 to 4 096 sets']);
+  assert.deepEqual(fault(long, 'machine: data: replace'), [5, 'data replaces by replace = "lru" or replace = "fifo"']);
   assert.deepEqual(fault(long, 'machine: data: not a bank')[0], 3);
   assert.deepEqual(fault(long, 'machine: costs 1013'),
     [null, 'an access may cost 1 013 cycles, and 1 000 is the most']);

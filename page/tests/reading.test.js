@@ -5,7 +5,7 @@ import assert from 'node:assert/strict';
 import fs from 'node:fs';
 import test from 'node:test';
 import { readTimeline } from '../src/answers.js';
-import { hardwareOf, PLACES } from '../src/caches.js';
+import { Caches, hardwareOf, PLACES } from '../src/caches.js';
 import { readProgram } from '../src/language.js';
 import { agrees, machineAfter, readRunBy } from '../src/reading.js';
 import {
@@ -36,6 +36,18 @@ test('what partitions hold, and what an instruction cost', () => {
   assert.equal(readRunBy(about, 2), null);
   assert.deepEqual(Object.keys(hardwareOf(null).banks), []);
   assert.ok(PLACES.includes('second'));
+});
+
+test('of the first that came a touch changes nothing', () => {
+  const bank = { sets: 1, ways: 2, bytes: 1, hit: 0, miss: 1 }, order = { names: ['L'], pairs: [] };
+  const heldBy = (replace) => {
+    const caches = new Caches({ isShared: false, banks: { data: { ...bank, replace } } }, order);
+    for (const address of [1, 2, 1, 3]) caches.touch('data', 'L', address);
+    return caches.rowOf('data', 'L', 0);
+  };
+  assert.deepEqual(heldBy('fifo'), [3, 2]);
+  assert.deepEqual(heldBy('lru'), [3, 1]);
+  assert.equal(hardwareOf(read('machines/fifo.toml')).banks.data.replace, 'fifo');
 });
 
 test('a reading that tells another cycle, value or end than the tool is none', () => {

@@ -4,7 +4,8 @@ from refusals import Stop
 
 PLACES = ("page", "code", "data", "second")
 NUMBERS = {"sets", "ways", "bytes", "hit", "miss"}
-MOST_SETS, MOST_WAYS, MOST_NUMBER, MOST_COST = 64, 8, 2**32 - 1, 1_000
+RULES = ("lru", "fifo")
+MOST_SETS, MOST_WAYS, MOST_NUMBER, MOST_COST = 4_096, 8, 2**32 - 1, 1_000
 NO_BOUND = "no bound: all labels share the banks, and the law on the write label does not hold\n"
 
 
@@ -17,10 +18,10 @@ def is_number(value):
 
 
 def is_bank(table):
-    """Whether it is a table of exactly the five numbers."""
-    if not isinstance(table, dict) or set(table) != NUMBERS:
+    """Whether it is a table of the five numbers, beside which at most a rule stands."""
+    if not isinstance(table, dict) or set(table) - {"replace"} != NUMBERS:
         return False
-    return all(is_number(value) and 0 <= value <= MOST_NUMBER for value in table.values())
+    return all(is_number(table[name]) and 0 <= table[name] <= MOST_NUMBER for name in NUMBERS)
 
 
 class Machine:
@@ -33,6 +34,8 @@ class Machine:
         for place, bank in self.banks.items():
             if not is_bank(bank):
                 raise fault(f"{place}: not a bank")
+            if bank.get("replace", "lru") not in RULES:
+                raise fault(f"{place}: replace")
         self.demand_limits()
 
     @staticmethod
@@ -65,7 +68,7 @@ class Machine:
 
 
 class MachineEnvironment:
-    """A machine with what its banks hold: for each place, label and set the tags, the latest touched first."""
+    """A machine with what its banks hold: for each place, label and set the tags, that which goes first at the end."""
 
     def __init__(self, machine, lattice, touches):
         self.banks, self.is_shared, self.lattice = machine.banks, machine.is_shared, lattice
@@ -89,8 +92,10 @@ class MachineEnvironment:
         bank = self.banks[place]
         tag = address // bank["bytes"]
         key = (place, label, tag % bank["sets"])
-        others = [other for other in self.held.get(key, []) if other != tag]
-        self.held[key] = [tag, *others][: bank["ways"]]
+        tags = self.held.get(key, [])
+        if bank.get("replace") == "fifo" and tag in tags:
+            return
+        self.held[key] = [tag, *(other for other in tags if other != tag)][: bank["ways"]]
 
     def look_up(self, place, address, read, write):
         """Whether an address is held at a place, and what it costs to look; the partition of the write label is touched."""

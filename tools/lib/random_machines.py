@@ -2,11 +2,13 @@
 
 PLACES = ("page", "code", "data", "second")
 MOST_COST = 1_000
-SETS = [1, 1, 2, 3, 5, 7, 8, 16, 31, 32, 63, 64]
+SETS = [1, 1, 2, 3, 5, 7, 8, 16, 31, 32, 63, 64, 65, 1000, 1024, 4095, 4096]
+RULES = ['"lru"', '"fifo"', '"fifo"']
 BYTES = [1, 2, 3, 4, 7, 8, 12, 24, 32, 33, 64, 1000, 1024, 4096, 2**20, 2**31, 2**32 - 1]
 # What stands in place of a right value, in TOML.
 WRONG_VERSIONS = ["0", "2", "-1", "1.0", '"1"', "true", "[1]", "2026-11-28", "{ number = 1 }"]
 WRONG_SHARING = ['"both"', '"Shared"', '"partition"', '""', "1", "true", '["shared"]']
+WRONG_RULES = ['"LRU"', '"Fifo"', '"fifo "', '"random"', '""', "0", "true", '["fifo"]', "{}"]
 WRONG_KEYS = ["pages", "Page", "third", "cost", "run", '""', '"page "']
 WRONG_BANKS = ["1", "true", '"none"', "[]", "{}", "[[]]", "8.5"]
 WRONG_NUMBERS = ["-1", "4294967296", "9223372036854775807", "9223372036854775808", "1.0", '"1"', "true", "[1]", "{}", "inf", "07:32:00"]
@@ -51,6 +53,9 @@ class MachineMaker:
         """The keys of a file with what stands behind them: a text of TOML, or of a bank the texts of its numbers."""
         sharing = sharing or self.dice.choice(["partitioned", "partitioned", "shared"])
         banks = {place: {name: self.number(value) for name, value in bank.items()} for place, bank in self.banks().items()}
+        for bank in banks.values():
+            if self.dice.random() < 0.6:
+                bank["replace"] = self.dice.choice(RULES)
         return {"version": "1", "sharing": f'"{sharing}"', **banks}
 
     def machine(self, sharing=None):
@@ -123,7 +128,10 @@ class MachineMaker:
             bank[self.dice.choice(list(bank))] = self.dice.choice(WRONG_NUMBERS)
 
     def break_sets(self, document):
-        self.some_bank(document)[1]["sets"] = self.dice.choice(["0", "65", "128", "4294967295"])
+        self.some_bank(document)[1]["sets"] = self.dice.choice(["0", "4097", "8192", "4294967295"])
+
+    def break_rule(self, document):
+        self.some_bank(document)[1]["replace"] = self.dice.choice(WRONG_RULES)
 
     def break_ways(self, document):
         self.some_bank(document)[1]["ways"] = self.dice.choice(["0", "9", "16", "4294967295"])
@@ -136,7 +144,7 @@ class MachineMaker:
 
     def broken(self, number):
         """A file that is refused, by the refusal of this number, and every other one in another way too."""
-        document, breaks = self.document(), [self.break_version, self.break_keys, self.break_sharing, self.break_bank]
+        document, breaks = self.document(), [self.break_version, self.break_keys, self.break_sharing, self.break_bank, self.break_rule]
         breaks += [self.break_sets, self.break_ways, self.break_bytes, self.break_costs]
         number %= len(breaks) + 1
         if number < len(breaks):

@@ -137,10 +137,10 @@ def space_in(document, program):
 
 
 def space_of(content, program):
-    """The space of a start file of version 3; None for any other content."""
+    """The space of a start file of version 3 without runs; None for any other content."""
     try:
         document = tomllib.loads(content.decode("utf-8"))
     except (tomllib.TOMLDecodeError, UnicodeDecodeError):
         return None
     version = document.get("version", 1)
-    return space_in(document, program) if is_number(version) and version == 3 else None
+    return space_in(document, program) if is_number(version) and version == 3 and "run" not in document else None

@@ -7,7 +7,7 @@ use Rattle.std.proofs.Math.Nat.{le-max_left, le-max_right, max-le, mul-le-mul_ri
 use Rattle.std.proofs.lemmas.Bool.{leb-true, leb-false}
 use Rattle.leak_bound.specs.Records.{distinct, distinct_count, Tests}
 use Rattle.sharp_count.specs.Lists.{IsAmong}
-use Rattle.sharp_bound.specs.Twice.{that_show}
+use Rattle.sharp_bound.specs.Guess.{that_show}
 use Rattle.gain_bound.proofs.Views.{over, over_views, over_all}
 use Rattle.gain_bound.specs.Gain.{sum_over, gained, best_gain, best_gains, gain_after, gain_by, FewGain, ViewsGainFew, ChoicesGainFew}
 

@@ -8,7 +8,7 @@ use Rattle.std.proofs.lemmas.Nat.{pow-add}
 use Rattle.std.proofs.lemmas.List.{length-map}
 use Rattle.fixed_log.specs.Entropy.{starts, own_powers}
 use Rattle.leak_bound.specs.Records.{distinct, distinct_count, Tests}
-use Rattle.sharp_bound.specs.Twice.{that_show}
+use Rattle.sharp_bound.specs.Guess.{that_show}
 use Rattle.gain_bound.specs.Gain.{sum_over}
 use Rattle.gain_bound.specs.Information.{product_over, weight_at, view_weights, FewBits, ViewsTellFew}
 use Rattle.gain_bound.proofs.Views.{over, over_views, over_all}

@@ -3,7 +3,7 @@ use Rattle.std.proofs.Common.{◌≡◌, ℕ, List, [], ◌∷◌, map, Bool, tr
 use Rattle.std.specs.Prelude.{cond}
 use Rattle.leak_bound.specs.Records.{distinct, Tests, Each}
 use Rattle.leak_bound.proofs.Few.{Spread, Spread-distinct}
-use Rattle.sharp_bound.specs.Twice.{that_show}
+use Rattle.sharp_bound.specs.Guess.{that_show}
 use Rattle.sharp_bound.proofs.Guess.{Has, Covered, covered_views, covered_distinct}
 
 -- for sums and products alike

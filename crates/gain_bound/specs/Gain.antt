@@ -2,7 +2,7 @@
 use Rattle.std.specs.Prelude.{◌≡◌, ℕ, ◌+◌, ◌*◌, ◌≤◌, List, [], ◌∷◌, Bool, true, max, map}
 use Rattle.leak_bound.specs.Records.{distinct, distinct_count, Tests}
 use Rattle.sharp_count.specs.Lists.{IsAmong}
-use Rattle.sharp_bound.specs.Twice.{that_show}
+use Rattle.sharp_bound.specs.Guess.{that_show}
 
 -- the sum of a number over the members of a list
 abbrev pub sum_over : {X : Type 0} → (X → ℕ) → List X → ℕ

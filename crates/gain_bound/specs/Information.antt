@@ -2,7 +2,7 @@
 use Rattle.std.specs.Prelude.{◌≡◌, ℕ, ◌*◌, ◌^◌, ◌≤◌, List, [], ◌∷◌, Bool, map}
 use Rattle.fixed_log.specs.Entropy.{starts, own_powers}
 use Rattle.leak_bound.specs.Records.{distinct, distinct_count, Tests}
-use Rattle.sharp_bound.specs.Twice.{that_show}
+use Rattle.sharp_bound.specs.Guess.{that_show}
 use Rattle.gain_bound.specs.Gain.{sum_over}
 
 -- the product of a number over the members of a list

@@ -4,5 +4,4 @@ pub mod Information
 pub mod Worth
 pub mod Reached
 pub mod Programs
-pub mod Many
 pub mod Own

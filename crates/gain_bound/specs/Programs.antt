@@ -12,7 +12,7 @@ use Rattle.leak_bound.specs.Relevant.{is_relevant}
 use Rattle.leak_bound.specs.Records.{Each, Pairwise, Tests}
 use Rattle.leak_bound.specs.Sound.{Agree, seen_from, Halts}
 use Rattle.leak_bound.specs.Source.{IsTypedWith}
-use Rattle.sharp_count.specs.Count.{sharp}
+use Rattle.leak_bound.specs.Rising.{sharp}
 use Rattle.sharp_count.specs.Ways.{AreWays}
 use Rattle.sharp_bound.specs.End.{seen_to_end, EndsLow}
 use Rattle.sharp_bound.specs.Firsts.{PredictsBy}

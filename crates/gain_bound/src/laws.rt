@@ -18,12 +18,10 @@ ghost use Rattle.gain_bound.specs.Worth.{ShownIsWorthFew};
 ghost use Rattle.gain_bound.specs.Reached.{WorthReached};
 ghost use Rattle.gain_bound.specs.Programs.{LoweredWorthOver};
 ghost use Rattle.gain_bound.specs.Own.{LoweredOwnIsWorth};
-ghost use Rattle.gain_bound.specs.Many.{LoweredWorthManyAll};
 
 use env_contract::env::LawfulEnv;
 use hardware::laws::machines_and_the_laws;
 use own_firsts::laws::lowered_few_sequences_own;
-use sharp_bound::laws::lowered_few_sequences_many;
 
 /// Whatever the starts weigh, and whatever actions gain at them: a view that shows at most n different things multiplies what
 /// the best of some actions gains by at most n.
@@ -66,16 +64,6 @@ pub fn lowered_few_worth_own<A, E: LawfulEnv>()
     ensures { LoweredOwnIsWorth A E.env E.serves }
 {
     lowered_few_sequences_own::<E>();
-}
-
-/// Any number of runs after each other of one secret X, each of an accepted program: each start is made from the secret and from
-/// all that was seen before. Where the starts of secrets that have shown the same agree, seeing all runs multiplies what the best
-/// of any actions gains by at most the product of their counts, and tells at most the logarithm of that, whatever the secrets
-/// weigh and whatever the actions gain.
-pub fn lowered_few_worth_many<X, A, E: LawfulEnv>()
-    ensures { LoweredWorthManyAll X A E.env E.serves }
-{
-    lowered_few_sequences_many::<X, E>();
 }
 
 /// As `lowered_few_worth`, where a look back into the history says what accesses cost: in every environment whose state is the

@@ -9,8 +9,11 @@ use Rattle.env_contract.specs.declared.place.Kind.TheVariants as kind
 use Rattle.env_contract.specs.declared.place.Place.{Place}
 use Rattle.env_contract.specs.declared.place.Place.TheVariants.{Page, Code, Data, Second}
 use Rattle.env_contract.specs.declared.place.Touch.{Touch}
-use Rattle.part_cache.specs.History.{Touched, held}
-use Rattle.part_cache.specs.Ways.{to_front}
+use Rattle.part_cache.specs.declared.replacement.Replacement.{Replacement}
+use Rattle.part_cache.specs.declared.replacement.Replacement.TheVariants.{LeastRecent, FirstCome}
+use Rattle.part_cache.specs.History.{Touched, held_by}
+use Rattle.part_cache.specs.Ways.{replaced}
+use Rattle.part_cache.proofs.Replaced.{row_none}
 use Rattle.part_cache.proofs.Stands.{held_here}
 use Rattle.part_tlb.specs.declared.bank.Bank.{Bank}
 use Rattle.part_tlb.specs.declared.bank.Hardware.{Hardware}
@@ -23,16 +26,18 @@ use Rattle.hardware.specs.Touching.{sets_from_numbers}
 abbrev mark : ℕ → ℕ → Touched
 mark l t = record { label = l; tag = t }
 
-some_tag : (ways tag : ℕ) → 0 < ways → to_front ways tag [] ≡ [] → ⊥
-some_tag zero tag lt e = absurd (omega arith)
-some_tag (suc n) tag lt e = absurd (cc)
+some_tag : (r : Replacement) (ways tag : ℕ) → 0 < ways → replaced r ways tag [] ≡ [] → ⊥
+some_tag r zero tag lt e = absurd (omega arith)
+some_tag LeastRecent (suc n) tag lt e = absurd (cc)
+some_tag FirstCome (suc n) tag lt e = absurd (cc)
 
 -- what was touched once is held
-touched_once : (sets ways label tag : ℕ) (ts : List Touched) → 0 < ways → ts ≡ record { label = label; tag = tag } ∷ []
-    → held sets ways ts label (tag % sets) ≡ [] → ⊥
-touched_once sets ways label tag ts some e none =
-    some_tag ways tag some
-    (sym (held_here sets ways [] label tag some) ∙ ap (λ (t : List Touched). held sets ways t label (tag % sets)) (sym e) ∙ none)
+touched_once : (r : Replacement) (sets ways label tag : ℕ) (ts : List Touched) → 0 < ways → ts ≡ record { label = label; tag = tag } ∷ []
+    → held_by r sets ways ts label (tag % sets) ≡ [] → ⊥
+touched_once r sets ways label tag ts some e none =
+    some_tag r ways tag some
+    (sym (ap (replaced r ways tag) (row_none r ways)) ∙ sym (held_here r sets ways [] label tag some)
+    ∙ ap (λ (t : List Touched). held_by r sets ways t label (tag % sets)) (sym e) ∙ none)
 
 module _ (hw : Hardware) (order : Order) (b : Bank) (is : IsBank b) (p : Place) (at : bank_at hw p ≡ Some b) where
   pub changes : (k : Kind) (ew label : ℕ) → touches_in hw order b p (accessed k 0 ew []) ≡ record { label = label; tag = 0 / b.bytes } ∷ []
@@ -42,8 +47,9 @@ module _ (hw : Hardware) (order : Order) (b : Bank) (is : IsBank b) (p : Place) 
       λ h. ap (λ o. option_map_or (λ (b : Bank). bank_part hw order b p label h) o []) at in
       let alike : bank_part hw order b p label (accessed k 0 ew []) ≡ bank_part hw order b p label [] =
       sym (told (accessed k 0 ew [])) ∙ same ∙ told [] in
-      touched_once b.sets b.ways label (0 / b.bytes) (touches_in hw order b p (accessed k 0 ew [])) is.some_way e
-      (sets_from_numbers hw order b is p label label (accessed k 0 ew []) [] alike (0 / b.bytes % b.sets) (mod_below (0 / b.bytes) b.sets is.some_set))
+      touched_once b.replacement b.sets b.ways label (0 / b.bytes) (touches_in hw order b p (accessed k 0 ew [])) is.some_way e
+      (sets_from_numbers hw order b is p label label (accessed k 0 ew []) [] alike (0 / b.bytes % b.sets) (mod_below (0 / b.bytes) b.sets is.some_set)
+      ∙ row_none b.replacement b.ways)
 
 -- the kind of an access that touches a place
 abbrev pub kind_at : Place → Kind

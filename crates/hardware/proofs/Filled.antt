@@ -10,8 +10,11 @@ use Rattle.env_contract.specs.declared.place.Kind.TheVariants as kind
 use Rattle.env_contract.specs.declared.place.Place.{Place}
 use Rattle.env_contract.specs.declared.place.Place.TheVariants.{Code}
 use Rattle.env_contract.specs.declared.place.Touch.{Touch}
-use Rattle.part_cache.specs.History.{Touched, some_below, holds}
-use Rattle.part_cache.specs.Ways.{to_front}
+use Rattle.part_cache.specs.declared.replacement.Replacement.{Replacement}
+use Rattle.part_cache.specs.declared.replacement.Replacement.TheVariants.{LeastRecent, FirstCome}
+use Rattle.part_cache.specs.History.{Touched, some_below, is_held, holds_by}
+use Rattle.part_cache.specs.Ways.{replaced}
+use Rattle.part_cache.proofs.Replaced.{row_none, any_held}
 use Rattle.part_cache.proofs.Stands.{some_below_at}
 use Rattle.part_tlb.specs.declared.bank.Bank.{Bank}
 use Rattle.part_tlb.specs.declared.bank.Hardware.{Hardware}
@@ -19,7 +22,7 @@ use Rattle.part_tlb.specs.declared.bank.Sharing.TheVariants.{Partitioned}
 use Rattle.part_tlb.specs.Machine.{home, home_by, accessed, touches_in, hits_in, hits_at, part_at}
 use Rattle.hardware.specs.Limits.{IsBank, HasBanks}
 use Rattle.hardware.specs.Rules.{fills_on_a_miss, BreaksAgreement, FillsOnAMissBreak}
-use Rattle.hardware.specs.Touching.{in_front, holds_is}
+use Rattle.hardware.specs.Touching.{touch_leaves, holds_is}
 use Rattle.hardware.proofs.Lawful.{elsewhere}
 use Rattle.hardware.proofs.Broken.{changes, touches_once}
 
@@ -35,9 +38,14 @@ none_below (suc n) f = go (f n) (none_below n f)
     go true e = e
     go false e = e
 
-in_front_any : (ways tag : ℕ) → 0 < ways → list_any (eqb tag) (to_front ways tag []) ≡ true
-in_front_any zero tag lt = absurd (omega arith)
-in_front_any (suc n) tag lt = or_left (eqb tag tag) _ (eq-eqb tag tag refl)
+-- no touches, nothing held
+none_held : (r : Replacement) (ways tag : ℕ) → is_held r ways [] tag ≡ false
+none_held r ways tag = sym (any_held r ways tag []) ∙ ap (list_any (eqb tag)) (row_none r ways)
+
+left_any : (r : Replacement) (ways tag : ℕ) → 0 < ways → list_any (eqb tag) (replaced r ways tag []) ≡ true
+left_any r zero tag lt = absurd (omega arith)
+left_any LeastRecent (suc n) tag lt = or_left (eqb tag tag) _ (eq-eqb tag tag refl)
+left_any FirstCome (suc n) tag lt = or_left (eqb tag tag) _ (eq-eqb tag tag refl)
 
 module _ (hw : Hardware) (has : HasBanks hw) (own : hw.sharing ≡ Partitioned) (b : Bank) (at : hw.code_cache ≡ Some b) (order : Order)
     (good : IsLattice (lattice_of order)) (high : ℕ) (below : high < order.size) (ne : high ≡ order.bottom → ⊥) where
@@ -60,22 +68,25 @@ module _ (hw : Hardware) (has : HasBanks hw) (own : hw.sharing ≡ Partitioned) 
   -- nothing hits at first
   misses : hits_at hw order Code [] high 0 ≡ false
   misses = ap (λ o. option_map_or (λ (b : Bank). hits_in hw order b Code [] high 0) o false) at
+      ∙ ap (λ held. some_below order.size (λ l. (lattice_of order).flows l (home hw order high) && held)) (none_held b.replacement b.ways (0 / b.bytes))
       ∙ none_below order.size (λ l. (lattice_of order).flows l (home hw order high))
 
   -- after the touch of the high label its line does
-  line_held : holds b.sets b.ways (touches_in hw order b Code (x ∷ [])) (home hw order high) (0 / b.bytes) ≡ true
+  line_held : holds_by b.replacement b.sets b.ways (touches_in hw order b Code (x ∷ [])) (home hw order high) (0 / b.bytes) ≡ true
   line_held =
       holds_is hw order b is Code (x ∷ []) (home hw order high) (0 / b.bytes)
-      ∙ ap (list_any (eqb (0 / b.bytes))) (in_front hw order b is Code x [] refl)
-      ∙ in_front_any b.ways (0 / b.bytes) is.some_way
+      ∙ ap (list_any (eqb (0 / b.bytes))) (touch_leaves hw order b is Code x [] refl)
+      ∙ ap (λ row. list_any (eqb (0 / b.bytes)) (replaced b.replacement b.ways (0 / b.bytes) row)) (row_none b.replacement b.ways)
+      ∙ left_any b.replacement b.ways (0 / b.bytes) is.some_way
 
   line_hits : hits_at hw order Code (x ∷ []) high 0 ≡ true
   line_hits = ap (λ o. option_map_or (λ (b : Bank). hits_in hw order b Code (x ∷ []) high 0) o false) at
       ∙ some_below_at order.size
-      (λ l. (lattice_of order).flows l (home hw order high) && holds b.sets b.ways (touches_in hw order b Code (x ∷ [])) l (0 / b.bytes))
+      (λ l. (lattice_of order).flows l (home hw order high) && holds_by b.replacement b.sets b.ways (touches_in hw order b Code (x ∷ [])) l (0 / b.bytes))
       (home hw order high) (subst (λ n. n < order.size) (sym (stays high)) below)
       (and_from ((lattice_of order).flows (home hw order high) (home hw order high))
-      (holds b.sets b.ways (touches_in hw order b Code (x ∷ [])) (home hw order high) (0 / b.bytes)) (good.same (home hw order high)) line_held)
+      (holds_by b.replacement b.sets b.ways (touches_in hw order b Code (x ∷ [])) (home hw order high) (0 / b.bytes))
+      (good.same (home hw order high)) line_held)
 
   breaks : BreaksAgreement (fills_on_a_miss hw order) (lattice_of order)
   breaks =

@@ -2,6 +2,6 @@ pub mod Lawful
 pub mod Broken
 pub mod Within
 pub mod Ruled
-pub mod Least
+pub mod Replacing
 pub mod Filled
 pub mod Named

@@ -5,7 +5,7 @@ use Rattle.part_tlb.specs.Named.{buffer_bank, code_bank, data_bank, second_bank,
 use Rattle.hardware.specs.Limits.{IsGoodBank, IsWithin}
 use Rattle.hardware.proofs.Within.{within, cheap_from}
 
-good : (b : Bank) → 0 < b.sets → 0 < b.ways → 0 < b.bytes → b.sets ≤ 64 → b.ways ≤ 8 → IsGoodBank b
+good : (b : Bank) → 0 < b.sets → 0 < b.ways → 0 < b.bytes → b.sets ≤ 4096 → b.ways ≤ 8 → IsGoodBank b
 good b s w y few narrow = record { bank = record { some_set = s; some_way = w; some_byte = y }; small = record { few_sets = few; few_ways = narrow } }
 
 is_buffer : IsGoodBank buffer_bank

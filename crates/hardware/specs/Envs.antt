@@ -7,7 +7,7 @@ use Rattle.env_contract.specs.declared.place.Place.{Place}
 use Rattle.env_contract.specs.declared.place.Place.TheVariants.{Page, Code, Data, Second}
 use Rattle.env_contract.specs.declared.place.Touch.{Touch}
 use Rattle.env_contract.specs.Env.{Env}
-use Rattle.part_cache.specs.Rows.{StandsFor}
+use Rattle.part_cache.specs.Rows.{StandsBy}
 use Rattle.part_tlb.specs.Machine.{line_place}
 use Rattle.part_tlb.specs.declared.bank.Bank.{Bank}
 use Rattle.part_tlb.specs.declared.bank.Hardware.{Hardware}
@@ -75,7 +75,7 @@ module _ (hw : Hardware) (order : Order) where
   Stand p h None None = Unit {0}
   Stand p h None (Some s) = ⊥
   Stand p h (Some b) None = ⊥
-  Stand p h (Some b) (Some s) = StandsFor s.cache (touches_in hw order b p h)
+  Stand p h (Some b) (Some s) = StandsBy b.replacement s.cache (touches_in hw order b p h)
 
   -- each bank does
   pub record Keeps (e : HardwareEnv) (h : List Touch) : Type 0 where

@@ -39,7 +39,7 @@ CostsAtMost hw = (order : Order) (k : Kind) (a er : ℕ) (h : List Touch) → ac
 
 -- the limits of what is made in memory
 pub record IsSmall (b : Bank) : Type 0 where
-  pub few_sets : b.sets ≤ 64
+  pub few_sets : b.sets ≤ 4096
   pub few_ways : b.ways ≤ 8
 
 -- each bank of the machine keeps them

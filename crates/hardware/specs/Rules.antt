@@ -1,5 +1,6 @@
 -- Machines with any rule of replacement, and any touches that an access adds.
-use Rattle.std.specs.Prelude.{◌≡◌, ◌<◌, Some, ℕ, ◌+◌, ◌/◌, ◌*◌, ◌%◌, Bool, false, cond, eqb, ltb, ◌&&◌, List, [], ◌∷◌, ◌++◌, length, map, take, drop, slice_set}
+use Rattle.std.specs.Prelude.{◌≡◌, ◌<◌, Some, ℕ, ◌+◌, ◌/◌, ◌*◌, ◌%◌, Bool, false, cond, eqb, ltb, ◌&&◌, List, [], ◌∷◌, ◌++◌, length, map, drop, slice_set}
+use Rattle.std.specs.Prelude.{IfSome}
 use Rattle.std.specs.List.{range_with_len, list_any}
 use Rattle.std.specs.Option.{option_map_or}
 use Rattle.label_lattice.specs.Lattice.{Lattice, IsLattice}
@@ -11,9 +12,10 @@ use Rattle.env_contract.specs.declared.place.Touch.{Touch}
 use Rattle.env_contract.specs.Env.{Env}
 use Rattle.env_contract.specs.Alike.{DoesAs}
 use Rattle.env_contract.specs.Laws.{AgreeBelow}
+use Rattle.part_cache.specs.declared.replacement.Replacement.{Replacement}
 use Rattle.part_cache.specs.History.{tags_in, some_below}
 use Rattle.part_cache.specs.Rows.{numbers_of}
-use Rattle.part_cache.specs.Ways.{to_front}
+use Rattle.part_cache.specs.Ways.{replaced}
 use Rattle.part_tlb.specs.Machine.{line_place}
 use Rattle.part_tlb.specs.declared.bank.Bank.{Bank}
 use Rattle.part_tlb.specs.declared.bank.Hardware.{Hardware}
@@ -39,19 +41,9 @@ abbrev pub set_after : {S : Type 0} → Rule S → ℕ → S → List ℕ → S
 set_after rule ways s [] = s
 set_after rule ways s (tag ∷ tags) = set_after rule ways (rule.touch ways tag s) tags
 
--- the least recently used goes first
-abbrev pub least_recent : Rule (List ℕ)
-least_recent = record { empty = []; touch = to_front; has = λ tag s. list_any (eqb tag) s; numbers = λ s. s }
-
--- the first that came goes first
-abbrev pub first_come : Rule (List ℕ)
-first_come =
-    record {
-      empty = [];
-      touch = λ ways tag s. cond (list_any (eqb tag) s) s (take ways (tag ∷ s));
-      has = λ tag s. list_any (eqb tag) s;
-      numbers = λ s. s;
-    }
+-- the rule that a machine's bank names
+abbrev pub rule_of : Replacement → Rule (List ℕ)
+rule_of r = record { empty = []; touch = replaced r; has = λ tag s. list_any (eqb tag) s; numbers = λ s. s }
 
 -- One that a count from a seed chooses goes. The count goes on only where a tag goes.
 abbrev pub chosen_touch : ℕ → ℕ → List ℕ → List ℕ
@@ -120,10 +112,14 @@ ruled_by_history rule adds hw order =
 abbrev pub RuledAreLawful : {S : Type 0} → Rule S → Type 0
 RuledAreLawful rule = (adds : Kind → ℕ → List Spot) (hw : Hardware) → HasBanks hw → hw.sharing ≡ Partitioned → Lawful (ruled_by_history rule adds hw)
 
--- the machine whose rule is the least recently used, and whose accesses touch nothing more, is the machine
-abbrev pub LeastRecentIsMachine : Type 0
-LeastRecentIsMachine = (hw : Hardware) → HasBanks hw → (order : Order)
-    → DoesAs (ruled_by_history least_recent own_spots hw order) (hardware_by_history hw order) order.size (λ h g. h ≡ g)
+-- each bank of the machine replaces by the rule
+abbrev pub ReplacesBy : Replacement → Hardware → Type 0
+ReplacesBy r hw = (p : Place) → IfSome (bank_at hw p) (λ (b : Bank). b.replacement ≡ r)
+
+-- the machine with that rule, whose accesses touch nothing more, is the machine
+abbrev pub RuleIsMachine : Replacement → Type 0
+RuleIsMachine r = (hw : Hardware) → HasBanks hw → ReplacesBy r hw → (order : Order)
+    → DoesAs (ruled_by_history (rule_of r) own_spots hw order) (hardware_by_history hw order) order.size (λ h g. h ≡ g)
 
 -- What a machine is not to do: a machine with partitions in which an access touches nothing where its line hit.
 abbrev pub fills_on_a_miss : Hardware → Order → Env (List Touch)

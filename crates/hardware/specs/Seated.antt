@@ -11,10 +11,10 @@ use Rattle.env_contract.specs.declared.place.Place.{Place}
 use Rattle.env_contract.specs.declared.place.Place.TheVariants.{Page, Code, Data, Second}
 use Rattle.env_contract.specs.declared.place.Touch.{Touch}
 use Rattle.env_contract.specs.Alike.{DoesAs}
-use Rattle.part_cache.specs.History.{hits}
-use Rattle.part_cache.specs.Rows.{StandsFor, found, touched}
-use Rattle.part_cache.proofs.Empty.{IsCacheOf-empty, StandsFor-empty_cache}
-use Rattle.part_cache.proofs.Stands.{StandsFor-touched}
+use Rattle.part_cache.specs.History.{hits_by}
+use Rattle.part_cache.specs.Rows.{StandsBy, found, touched_by}
+use Rattle.part_cache.proofs.Empty.{IsCacheOf-empty, StandsBy-empty_cache}
+use Rattle.part_cache.proofs.Stands.{StandsBy-touched}
 use Rattle.part_cache.proofs.Laws.{touched_serves, part_of_held}
 use Rattle.part_tlb.specs.Machine.{is_place, line_place}
 use Rattle.part_tlb.specs.Standing.{found_hits}
@@ -46,7 +46,7 @@ of_one_touched sharing order (Some b) (Some s) a ew m =
       same = m.same;
       shared = m.shared;
       good = m.good;
-      cache = touched_serves order b.sets b.ways s.cache (a / s.bank.bytes) (seat_home s ew) m.cache;
+      cache = touched_serves order b.sets b.ways s.bank.replacement s.cache (a / s.bank.bytes) (seat_home s ew) m.cache;
     }
 
 -- what a look-up costs at most
@@ -68,9 +68,9 @@ module _ (hw : Hardware) (order : Order) (p : Place) (h : List Touch) where
   found_is None (Some s) m d a er = absurd m
   found_is (Some b) None m d a er = absurd m
   found_is (Some b) (Some s) m d a er =
-      found_hits order b.sets b.ways s.cache (a / s.bank.bytes) (seat_home s er) (touches_in hw order b p h) m.cache d
-      ∙ ap (λ l. hits order b.sets b.ways (touches_in hw order b p h) l (a / s.bank.bytes)) (home_is hw.sharing order b s m er)
-      ∙ ap (λ (c : Bank). hits order b.sets b.ways (touches_in hw order b p h) (home hw order er) (a / c.bytes)) m.same
+      found_hits b.replacement order b.sets b.ways s.cache (a / s.bank.bytes) (seat_home s er) (touches_in hw order b p h) m.cache d
+      ∙ ap (λ l. hits_by b.replacement order b.sets b.ways (touches_in hw order b p h) l (a / s.bank.bytes)) (home_is hw.sharing order b s m er)
+      ∙ ap (λ (c : Bank). hits_by b.replacement order b.sets b.ways (touches_in hw order b p h) (home hw order er) (a / c.bytes)) m.same
 
   cost_is : (o : Option Bank) (s : Option Seat) → AreOfOne hw.sharing order o s → Stand hw order p h o s → (a er : ℕ)
       → option_cost s a er ≡ option_map_or (λ (b : Bank). cond (hits_in hw order b p h er a) b.hit b.miss) o 0
@@ -86,7 +86,7 @@ module _ (hw : Hardware) (order : Order) (p : Place) (h : List Touch) where
   part_is None None m d l lt = refl
   part_is None (Some s) m d l lt = absurd m
   part_is (Some b) None m d l lt = absurd m
-  part_is (Some b) (Some s) m d l lt = part_of_held order b.sets b.ways s.cache l (touches_in hw order b p h) m.cache lt d
+  part_is (Some b) (Some s) m d l lt = part_of_held order b.sets b.ways b.replacement s.cache l (touches_in hw order b p h) m.cache lt d
 
   -- a touch at the place, and one elsewhere
   stand_here : (o : Option Bank) (s : Option Seat) → AreOfOne hw.sharing order o s → Stand hw order p h o s → (q : Place) → is_place p q ≡ true
@@ -95,11 +95,13 @@ module _ (hw : Hardware) (order : Order) (p : Place) (h : List Touch) where
   stand_here None (Some s) m d q same a ew = m
   stand_here (Some b) None m d q same a ew = m
   stand_here (Some b) (Some s) m d q same a ew =
-      subst (StandsFor (touched s.cache (a / s.bank.bytes) (seat_home s ew)))
+      subst (λ r. StandsBy b.replacement (touched_by r s.cache (a / s.bank.bytes) (seat_home s ew)) (touches_in hw order b p (touch_at q a ew h)))
+      (sym (ap (λ (c : Bank). c.replacement) m.same))
+      (subst (StandsBy b.replacement (touched_by b.replacement s.cache (a / s.bank.bytes) (seat_home s ew)))
       (ap (λ l. touches_in hw order b p h ++ record { label = l; tag = a / s.bank.bytes } ∷ []) (home_is hw.sharing order b s m ew)
       ∙ ap (λ (c : Bank). touches_in hw order b p h ++ record { label = home hw order ew; tag = a / c.bytes } ∷ []) m.same
       ∙ sym (touches-here hw order b m.good p h (record { place = q; label = record { number = ew }; address = a }) same))
-      (StandsFor-touched s.cache m.cache.cache (a / s.bank.bytes) (seat_home s ew) (touches_in hw order b p h) d)
+      (StandsBy-touched s.cache m.cache.cache b.replacement (a / s.bank.bytes) (seat_home s ew) (touches_in hw order b p h) d))
 
   stand_there : (o : Option Bank) (s : Option Seat) → AreOfOne hw.sharing order o s → Stand hw order p h o s → (q : Place) → is_place p q ≡ false
       → (a ew : ℕ) → Stand hw order p (touch_at q a ew h) o s
@@ -107,7 +109,8 @@ module _ (hw : Hardware) (order : Order) (p : Place) (h : List Touch) where
   stand_there None (Some s) m d q apart a ew = m
   stand_there (Some b) None m d q apart a ew = m
   stand_there (Some b) (Some s) m d q apart a ew =
-      subst (StandsFor s.cache) (sym (touches-other hw order b m.good p h (record { place = q; label = record { number = ew }; address = a }) apart)) d
+      subst (StandsBy b.replacement s.cache)
+      (sym (touches-other hw order b m.good p h (record { place = q; label = record { number = ew }; address = a }) apart)) d
 
 -- each bank of an environment of some machine is one of some bank
 pub seat_of_some : (order : Order) (e : HardwareEnv) → IsOfSome order e → (p : Place) → IsSomeSeat order (seat_at e p)
@@ -247,7 +250,7 @@ module _ (hw : Hardware) (order : Order) where
 
     empty_stands : (p : Place) (o : Option Bank) → Stand hw order p [] o (empty_option hw.sharing order o)
     empty_stands p None = tt
-    empty_stands p (Some b) = StandsFor-empty_cache order b.sets b.ways
+    empty_stands p (Some b) = StandsBy-empty_cache b.replacement order b.sets b.ways
 
     pub empty_made : IsCheap hw → IsMadeOf hw order (empty_machine hw order)
     empty_made cheap = record { seats = at; cheap = cheap }

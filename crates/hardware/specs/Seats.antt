@@ -2,7 +2,7 @@
 use Rattle.std.specs.Prelude.{◌≡◌, ℕ, ◌/◌, Bool, false, cond, List, [], Option, Some, None}
 use Rattle.std.specs.Option.{option_map, option_map_or}
 use Rattle.label_lattice.specs.Order.{Order}
-use Rattle.part_cache.specs.Rows.{IsCacheOf, found, touched, part_of, empty_cache}
+use Rattle.part_cache.specs.Rows.{IsCacheOf, found, touched_by, part_of, empty_cache}
 use Rattle.part_tlb.specs.declared.bank.Bank.{Bank}
 use Rattle.part_tlb.specs.declared.bank.Sharing.{Sharing}
 use Rattle.part_tlb.specs.Machine.{home_by}
@@ -24,7 +24,7 @@ abbrev pub seat_home : Seat → ℕ → ℕ
 seat_home s label = home_by s.sharing s.cache.order label
 
 abbrev pub seat_touched : Seat → ℕ → ℕ → Seat
-seat_touched s address ew = record s { cache = touched s.cache (address / s.bank.bytes) (seat_home s ew) }
+seat_touched s address ew = record s { cache = touched_by s.bank.replacement s.cache (address / s.bank.bytes) (seat_home s ew) }
 
 abbrev pub option_found : Option Seat → ℕ → ℕ → Bool
 option_found o address er = option_map_or (λ (s : Seat). found s.cache (address / s.bank.bytes) (seat_home s er)) o false

@@ -10,10 +10,10 @@ use Rattle.label_lattice.specs.Lattice.{Flows}
 use Rattle.label_lattice.specs.Order.{Order, lattice_of}
 use Rattle.env_contract.specs.declared.place.Place.{Place}
 use Rattle.env_contract.specs.declared.place.Touch.{Touch}
-use Rattle.part_cache.specs.History.{Touched, tags_in, holds, some_below, held}
+use Rattle.part_cache.specs.History.{Touched, tags_in, holds_by, some_below, held_by}
 use Rattle.part_cache.specs.Rows.{numbers_of}
-use Rattle.part_cache.specs.Ways.{to_front}
-use Rattle.part_cache.proofs.Near.{any_near}
+use Rattle.part_cache.specs.Ways.{replaced}
+use Rattle.part_cache.proofs.Replaced.{any_held}
 use Rattle.part_cache.proofs.Stands.{is_at, held_here, held_elsewhere}
 use Rattle.part_cache.proofs.Laws.{rows_from_numbers}
 use Rattle.part_tlb.specs.Machine.{is_place}
@@ -76,25 +76,26 @@ module _ (hw : Hardware) (order : Order) (b : Bank) (is : IsBank b) (p : Place) 
   beside : (x : Touch) (h : List Touch) (l set : ℕ) → is_place p x.place ≡ true → is_at b.sets l set (seen x) ≡ false
       → holding (h ++ x ∷ []) l set ≡ holding h l set
   beside x h l set same apart =
-      ap (λ (t : List Touched). held b.sets b.ways t l set) (touches-here h x same) ∙ held_elsewhere b.sets b.ways (touches h) (seen x) l set apart
+      ap (λ (t : List Touched). held_by b.replacement b.sets b.ways t l set) (touches-here h x same)
+      ∙ held_elsewhere b.replacement b.sets b.ways (touches h) (seen x) l set apart
 
   in_elsewhere : (x : Touch) (h : List Touch) (l set : ℕ) → (l ≡ home hw order x.label.number → ⊥) → holding (h ++ x ∷ []) l set ≡ holding h l set
   in_elsewhere x h l set ne = go (cases_Bool (is_place p x.place))
     where
       go : ((is_place p x.place ≡ true) ⊎ (is_place p x.place ≡ false)) → holding (h ++ x ∷ []) l set ≡ holding h l set
       go (inl same) = beside x h l set same (ap (λ c. c && eqb (x.address / b.bytes % b.sets) set) (ne_eqb (home hw order x.label.number) l (λ e. ne (sym e))))
-      go (inr apart) = ap (λ (t : List Touched). held b.sets b.ways t l set) (touches-other h x apart)
+      go (inr apart) = ap (λ (t : List Touched). held_by b.replacement b.sets b.ways t l set) (touches-other h x apart)
 
   -- a touch leaves the other partitions
   pub touch_elsewhere : (x : Touch) (l : ℕ) (h : List Touch) → (l ≡ home hw order x.label.number → ⊥) → part l (h ++ x ∷ []) ≡ part l h
   touch_elsewhere x l h ne = numbers_from_sets l (h ++ x ∷ []) h (λ set below. in_elsewhere x h l set ne)
 
-  -- in its own partition a touch puts its tag to the front
-  pub in_front : (x : Touch) (g : List Touch) → is_place p x.place ≡ true → holding (g ++ x ∷ []) (seen x).label ((seen x).tag % b.sets)
-      ≡ to_front b.ways (seen x).tag (holding g (seen x).label ((seen x).tag % b.sets))
-  in_front x g same =
-      ap (λ (t : List Touched). held b.sets b.ways t (seen x).label ((seen x).tag % b.sets)) (touches-here g x same)
-      ∙ held_here b.sets b.ways (touches g) (seen x).label (seen x).tag is.some_way
+  -- in its own partition a touch leaves what the rule of replacement says
+  pub touch_leaves : (x : Touch) (g : List Touch) → is_place p x.place ≡ true → holding (g ++ x ∷ []) (seen x).label ((seen x).tag % b.sets)
+      ≡ replaced b.replacement b.ways (seen x).tag (holding g (seen x).label ((seen x).tag % b.sets))
+  touch_leaves x g same =
+      ap (λ (t : List Touched). held_by b.replacement b.sets b.ways t (seen x).label ((seen x).tag % b.sets)) (touches-here g x same)
+      ∙ held_here b.replacement b.sets b.ways (touches g) (seen x).label (seen x).tag is.some_way
 
   in_own : (x : Touch) (h h' : List Touch) (set : ℕ) → set < b.sets
       → ((s : ℕ) → s < b.sets → holding h (seen x).label s ≡ holding h' (seen x).label s)
@@ -111,17 +112,17 @@ module _ (hw : Hardware) (order : Order) (b : Bank) (is : IsBank b) (p : Place) 
           → holding (h ++ x ∷ []) own set ≡ holding (h' ++ x ∷ []) own set
       go (inl same) (inl e) =
           ap (holding (h ++ x ∷ []) own) (sym e)
-          ∙ in_front x h same
-          ∙ ap (to_front b.ways tag) (alike (tag % b.sets) (mod_below tag b.sets is.some_set))
-          ∙ sym (in_front x h' same)
+          ∙ touch_leaves x h same
+          ∙ ap (replaced b.replacement b.ways tag) (alike (tag % b.sets) (mod_below tag b.sets is.some_set))
+          ∙ sym (touch_leaves x h' same)
           ∙ ap (holding (h' ++ x ∷ []) own) e
       go (inl same) (inr ne) =
           let apart : is_at b.sets own set (seen x) ≡ false = grind (arith, ne_eqb (tag % b.sets) set ne) in
           beside x h own set same apart ∙ alike set below ∙ sym (beside x h' own set same apart)
       go (inr apart) e =
-          ap (λ (t : List Touched). held b.sets b.ways t own set) (touches-other h x apart)
+          ap (λ (t : List Touched). held_by b.replacement b.sets b.ways t own set) (touches-other h x apart)
           ∙ alike set below
-          ∙ ap (λ (t : List Touched). held b.sets b.ways t own set) (sym (touches-other h' x apart))
+          ∙ ap (λ (t : List Touched). held_by b.replacement b.sets b.ways t own set) (sym (touches-other h' x apart))
 
   -- after the same touch a partition depends on what it held before
   pub touch_agrees : (x : Touch) (l : ℕ) (h h' : List Touch) → part l h ≡ part l h' → part l (h ++ x ∷ []) ≡ part l (h' ++ x ∷ [])
@@ -137,8 +138,8 @@ module _ (hw : Hardware) (order : Order) (b : Bank) (is : IsBank b) (p : Place) 
       go (inr ne) alike = touch_elsewhere x l h ne ∙ e ∙ sym (touch_elsewhere x l h' ne)
 
   -- a partition holds a tag where it is among those held
-  pub holds_is : (h : List Touch) (l tag : ℕ) → holds b.sets b.ways (touches h) l tag ≡ list_any (eqb tag) (holding h l (tag % b.sets))
-  holds_is h l tag = sym (any_near b.ways tag (reverse (tags_in b.sets l (tag % b.sets) (touches h))))
+  pub holds_is : (h : List Touch) (l tag : ℕ) → holds_by b.replacement b.sets b.ways (touches h) l tag ≡ list_any (eqb tag) (holding h l (tag % b.sets))
+  holds_is h l tag = sym (any_held b.replacement b.ways tag (reverse (tags_in b.sets l (tag % b.sets) (touches h))))
 
   -- a look-up reads the partitions whose labels flow to the home of er
   pub hits_same : (er a : ℕ) (h h' : List Touch) → ((l : ℕ) → Flows (lattice_of order) l (home hw order er) → part l h ≡ part l h')
@@ -153,7 +154,7 @@ module _ (hw : Hardware) (order : Order) (b : Bank) (is : IsBank b) (p : Place) 
       flows l = (lattice_of order).flows l (home hw order er)
 
       keeps : List Touch → ℕ → Bool
-      keeps g l = holds b.sets b.ways (touches g) l tag
+      keeps g l = holds_by b.replacement b.sets b.ways (touches g) l tag
 
       go : (l : ℕ) → ((flows l ≡ true) ⊎ (flows l ≡ false)) → (flows l && keeps h l) ≡ (flows l && keeps h' l)
       go l (inl f) =

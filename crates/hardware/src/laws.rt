@@ -3,12 +3,13 @@
 ghost use Rattle.std.specs.Prelude.{ℕ, List};
 ghost use Rattle.label_lattice.specs.Order.{Order};
 ghost use Rattle.env_contract.specs.Alike.{DoesAs};
+ghost use Rattle.part_cache.specs.declared.replacement.Replacement.{Replacement};
 ghost use Rattle.part_tlb.specs.declared.bank.Hardware.{Hardware};
 ghost use Rattle.hardware.specs.Laws.{PartitionedAreLawful, AllReadAndAgree, SharedBreak};
 ghost use Rattle.hardware.specs.Limits.{CostsAtMost, IsWithin};
 ghost use Rattle.part_tlb.specs.Machine.{hardware_by_history};
 ghost use Rattle.hardware.specs.Envs.{machine_env, Keeps};
-ghost use Rattle.hardware.specs.Rules.{Rule, IsTold, RuledAreLawful, least_recent, first_come, chosen_from, LeastRecentIsMachine, FillsOnAMissBreak};
+ghost use Rattle.hardware.specs.Rules.{Rule, IsTold, RuledAreLawful, rule_of, chosen_from, RuleIsMachine, FillsOnAMissBreak};
 ghost use Rattle.part_tlb.specs.Named.{flat_machine, part_machine, part2_machine};
 
 /// A machine with partitions keeps the three laws of an environment, whatever its sizes and costs. Every machine keeps
@@ -39,14 +40,12 @@ pub fn machines_do_as_histories()
 
 /// A machine with partitions keeps the three laws whatever rule replaces its tags, so long as the parts that are compared
 /// tell all that the rule keeps, and whatever else an access touches by its kind and address alone, as the next line. So
-/// it is for the least recently used, which is what `hardware_by_history` says, for the first that came, and for one that a
-/// seed chooses.
+/// it is for the rules that banks name, which are what `hardware_by_history` says, and for one that a seed chooses.
 pub fn rules_keep_the_laws()
     ensures every { (rule : Rule (List ℕ)) → IsTold rule → RuledAreLawful rule }
-    ensures least_recent { RuledAreLawful least_recent }
-    ensures first_come { RuledAreLawful first_come }
+    ensures named { (r : Replacement) → RuledAreLawful (rule_of r) }
     ensures chosen { (seed : ℕ) → RuledAreLawful (chosen_from seed) }
-    ensures same { LeastRecentIsMachine }
+    ensures same { (r : Replacement) → RuleIsMachine r }
 {}
 
 /// Partitions alone are not enough: where an access touches nothing if its line was found in any partition that it may

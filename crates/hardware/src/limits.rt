@@ -6,7 +6,7 @@ ghost use Rattle.hardware.specs.Limits.{IsGoodBank, HasGoodBanks, IsCheap, IsWit
 use part_tlb::bank::{Bank, Hardware};
 
 /// The most sets of a bank.
-pub const MAX_SETS: u32 = 64;
+pub const MAX_SETS: u32 = 4096;
 
 /// The most ways of a set.
 pub const MAX_WAYS: u32 = 8;
@@ -16,7 +16,7 @@ pub const MAX_COST: u64 = 1000;
 
 /// Says nothing at run time: what the limits are.
 pub fn limits_are()
-    ensures sets { MAX_SETS ≡ 64 }
+    ensures sets { MAX_SETS ≡ 4096 }
     ensures ways { MAX_WAYS ≡ 8 }
     ensures cost { MAX_COST ≡ 1000 }
 {}

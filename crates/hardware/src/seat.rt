@@ -1,8 +1,8 @@
 //! One bank of a machine, with what it holds.
 
-ghost use Rattle.std.specs.Prelude.{◌≡◌, ◌<◌, ◌≤◌, ◌/◌, IfOk, IfSome, Option, [], IsTrue, ◌↔◌};
+ghost use Rattle.std.specs.Prelude.{◌≡◌, ◌<◌, ◌≤◌, ◌/◌, IfOk, IfSome, Option, [], IsTrue, true, cond, ◌↔◌};
 ghost use Rattle.label_lattice.specs.Order.{Order};
-ghost use Rattle.part_cache.specs.Rows.{found, touched, empty_cache};
+ghost use Rattle.part_cache.specs.Rows.{found, touched_by, empty_cache};
 ghost use Rattle.part_tlb.specs.declared.bank.Sharing.{Sharing};
 ghost use Rattle.hardware.specs.Limits.{IsBank, IsSmall};
 ghost use Rattle.hardware.specs.Seats.{empty_seat, seat_home, seat_touched, option_found, option_cost, option_touched, option_part};
@@ -11,6 +11,7 @@ ghost use Rattle.hardware.specs.Seats.{empty_option, AreOfOne, IsSomeSeat};
 use label_lattice::label::Label;
 use label_lattice::lattice::Lattice;
 use part_cache::cache::PartCache;
+use part_cache::replacement::Replacement;
 use part_tlb::bank::{Bank, Sharing};
 use std::alloc::Global;
 use std::rc::Rc;
@@ -71,12 +72,28 @@ impl Seat {
         let reads = self.home(er);
         let writes = self.home(ew);
         let tag = address / self.bank.bytes;
-        if reads.number == writes.number && self.cache.touch_held(self.bank.sets, tag, writes) {
+        if reads.number == writes.number && self.touch_held(tag, writes) {
             true
         } else {
             let hit = self.cache.look(tag, reads);
-            self.cache.touch(tag, writes);
+            self.cache.touch_by(self.bank.replacement, tag, writes);
             hit
+        }
+    }
+
+    // Where the least recently used goes first and the partition of the label holds the tag, touches it: whether it
+    // did. A look-up at the label then hits.
+    #[inline(always)]
+    fn touch_held(&mut self, tag: u32, label: Label) -> bool
+        requires label { label.number < self.old.cache.order.size }
+        requires sets { self.old.bank.sets ≡ self.old.cache.sets }
+        ensures found { IsTrue result → found self.old.cache tag label.number ≡ true }
+        ensures touched { self.new ≡ cond result
+            (record self.old { cache = touched_by self.old.bank.replacement self.old.cache tag label.number }) self.old }
+    {
+        match self.bank.replacement {
+            Replacement::LeastRecent => self.cache.touch_held(self.bank.sets, tag, label),
+            Replacement::FirstCome => false,
         }
     }
 
@@ -87,7 +104,8 @@ impl Seat {
         ensures { self.new ≡ seat_touched self.old address label.number }
     {
         let own = self.home(label);
-        self.cache.touch(address / self.bank.bytes, own);
+        self.cache
+            .touch_by(self.bank.replacement, address / self.bank.bytes, own);
     }
 }
 

@@ -8,6 +8,7 @@ use env_contract::env::MachineEnv;
 use env_contract::place::Kind;
 use label_lattice::label::Label;
 use label_lattice::lattice::Lattice;
+use part_cache::replacement::Replacement;
 use part_tlb::bank::{Bank, Hardware, Sharing};
 use sample_lattice::{HIGH, LOW, two_labels};
 use std::alloc::Global;
@@ -19,6 +20,7 @@ const BUFFER: Bank = Bank {
     bytes: 1024,
     hit: 0,
     miss: 20,
+    replacement: Replacement::LeastRecent,
 };
 
 const CODE: Bank = Bank {
@@ -27,6 +29,7 @@ const CODE: Bank = Bank {
     bytes: 32,
     hit: 0,
     miss: 8,
+    replacement: Replacement::LeastRecent,
 };
 
 const LINES: Bank = Bank {
@@ -35,6 +38,7 @@ const LINES: Bank = Bank {
     bytes: 32,
     hit: 0,
     miss: 12,
+    replacement: Replacement::LeastRecent,
 };
 
 const SECOND: Bank = Bank {
@@ -43,6 +47,7 @@ const SECOND: Bank = Bank {
     bytes: 32,
     hit: 0,
     miss: 30,
+    replacement: Replacement::LeastRecent,
 };
 
 fn machine(second: Option<Bank>, sharing: Sharing) -> Hardware {

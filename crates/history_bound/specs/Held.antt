@@ -11,8 +11,9 @@ use Rattle.part_tlb.specs.declared.bank.Hardware.{Hardware}
 use Rattle.part_tlb.specs.Machine.{bank_at, held_in}
 
 module _ (hw : Hardware) (order : Order) where
-  -- After both histories each set of each partition of a bank whose label flows to the observer holds the same: the tags
-  -- since whose last touch fewer different tags than there are ways were touched there, the latest touched first.
+  -- After both histories each set of each partition of a bank whose label flows to the observer holds the same: under the
+  -- least recently used the tags since whose last touch fewer different tags than there are ways were touched there, the
+  -- latest touched first; under the first that came the latest that came, as many as there are ways.
   abbrev pub BankHoldsAlike : Place → Lattice → ℕ → List Touch → List Touch → Bank → Type 0
   BankHoldsAlike p lat o h h' b =
       (l : ℕ) → Flows lat l o → (set : ℕ) → set < b.sets → held_in hw order b p h l set ≡ held_in hw order b p h' l set

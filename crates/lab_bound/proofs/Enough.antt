@@ -28,7 +28,8 @@ use Rattle.leak_bound.specs.Records.{Each, Pairwise, Tests}
 use Rattle.leak_bound.specs.Sound.{bound, FirstBegins, Halts}
 use Rattle.leak_bound.specs.Source.{IsTypedWith}
 use Rattle.sharp_count.specs.declared.count.LevelRuns.{LevelRuns}
-use Rattle.sharp_count.specs.Count.{rising, sharp, fitting}
+use Rattle.leak_bound.specs.Rising.{rising, sharp}
+use Rattle.sharp_count.specs.Count.{fitting}
 use Rattle.sharp_count.specs.Levels.{counts_of, firsts_of}
 use Rattle.sharp_count.specs.Shared.{shared_by, shared, shared_of}
 use Rattle.sharp_count.proofs.Fitting.{told}

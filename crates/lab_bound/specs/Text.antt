@@ -8,7 +8,8 @@ use Rattle.timing_types.specs.Labelled.{LabelledProgram, order_of, labels_of, le
 use Rattle.leak_bound.specs.Relevant.{is_relevant}
 use Rattle.sharp_count.specs.declared.count.LevelRuns.{LevelRuns}
 use Rattle.sharp_count.specs.declared.count.Runs.TheVariants.{Halted}
-use Rattle.sharp_count.specs.Count.{sharp, fitting}
+use Rattle.leak_bound.specs.Rising.{sharp}
+use Rattle.sharp_count.specs.Count.{fitting}
 use Rattle.sharp_count.specs.Levels.{miss_counts, counts_of, values_of}
 use Rattle.sharp_count.specs.Shared.{shared_of}
 use Rattle.sharp_bound.specs.End.{EndsLow}

@@ -14,12 +14,12 @@ use Rattle.tool_texts.proofs.EndLemmas.{broke_map}
 use Rattle.tool_stages.specs.Content.{Content}
 use Rattle.tool_stages.specs.Stages.{Observes}
 use Rattle.tool_stages.specs.Begins.{NoMore}
-use Rattle.tool_stages.proofs.StartLemmas.{count_given}
 use Rattle.lab_runs.specs.declared.least.LeastLabelled.{LeastLabelled}
 use Rattle.lab_runs.specs.declared.least.LeastLabelled.TheVariants.{Accepted, Refused}
 use Rattle.lab_runs.specs.Shown.{head_line, RunsAccepted, RunsRefused, Shows, HasShown, FileShowStops}
 use Rattle.lab_runs.specs.ShownViews.{shown_of}
 use Rattle.lab_runs.proofs.ShownLemmas.{shows_program, from_map, from_goes}
+use Rattle.space_stage.proofs.Counts.{count_list}
 use Rattle.space_stage.specs.Given.{GivenValue, GivenIs, GivenStops, IsFitting}
 use Rattle.space_stage.proofs.Stops.{given_rise}
 use Rattle.lab_leak.specs.Answer.{HasLeakOf, CanLeakOf, IsLeakAnswer}
@@ -103,7 +103,7 @@ module _ (refused : Bool) (Rises : List ℕ → Type 0) (content : Content) (fil
   -- it can be told
   pub given_fits : o ≡ Some l → (g : GivenValue) → GivenIs held p g → IsFitting p g → CanLeakOf (shown_of labels).labelled l code g
   given_fits names (inl ss) gives fits =
-      let n = count_given held p ss gives in
+      let n = count_list held p ss gives in
       record {
         image = h.shown.image.0;
         observer = seen_label names (inl ss) gives;

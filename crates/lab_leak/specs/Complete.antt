@@ -9,7 +9,8 @@ use Rattle.tool_stages.specs.declared.envs.Environment.{Environment}
 use Rattle.tool_texts.specs.declared.status.Status.{Status}
 use Rattle.tool_stages.specs.Content.{Content, IsKnown}
 use Rattle.tool_stages.specs.Goes.{CanBeAudited, OfObserver}
-use Rattle.tool_stages.specs.Stages.{Reads, Observes, StartsAre}
+use Rattle.tool_stages.specs.Stages.{Reads, Observes}
+use Rattle.space_stage.specs.Given.{ListIs}
 use Rattle.lab_runs.specs.Shown.{Shown, Shows, RunsAs}
 use Rattle.lab_leak.specs.Answer.{IsLeakAnswer}
 
@@ -24,7 +25,7 @@ pub record CanLeak (refused : Bool) (content : Content) (file starts observer : 
   pub observes : Observes program.order (Some observer) observed
   pub runs : RunsAs refused program
   pub short : (x : Shown) → Shows refused program x → length (lowered x.labelled).instrs ≤ 200000
-  pub audited : (x : Shown) → Shows refused program x → (ss : List StartValue) × StartsAre (content starts) program ss
+  pub audited : (x : Shown) → Shows refused program x → (ss : List StartValue) × ListIs (content starts) program ss
       × OfObserver (λ l. CanBeAudited e t x.labelled l ss) observed
 
 -- Where both files are told to hold bytes, and neither count of faults rose, two answers are one: they have the same

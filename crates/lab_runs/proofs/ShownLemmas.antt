@@ -24,7 +24,7 @@ use Rattle.tool_stages.proofs.GoesLemmas.{then_goes, then_goes_from, program_goe
 use Rattle.tool_stages.proofs.OneFirst.{one_observer}
 use Rattle.tool_stages.proofs.OneLemmas.{Same, then_one, one_program, one_typed, typed_or_not, one_type_stop, one_image_stop, image_or_not}
 use Rattle.tool_stages.proofs.RunLemmas.{observer_below}
-use Rattle.tool_stages.proofs.SoundLemmas.{least_made}
+use Rattle.tool_stages.proofs.SoundLemmas.{accepted}
 use Rattle.space_stage.specs.Listed.{IsListed, ListedStops, AreFitting}
 use Rattle.space_stage.proofs.Listing.{one_list, listed_go, one_listed_stop, listed_done, listed_rise}
 use Rattle.lab_runs.specs.CanRun.{CanRun}
@@ -182,13 +182,7 @@ module _ (refused : Bool) (content : Content) (file : List ℕ) (observer : Opti
   pub is_accepted : refused ≡ false → HasShown refused content file observer x o code → IsAccepted (content file)
   is_accepted e h =
       let shows : RunsAccepted h.program x = subst (λ b. Shows b h.program x) e h.shown.shows in
-      record {
-        program = h.program;
-        reads = h.reads;
-        labelled = x.labelled;
-        types = shows.types;
-        typed = least_made _ h.program x.labelled h.reads.spelled shows.types;
-      }
+      accepted _ h.program x.labelled h.reads shows.types
 
 -- what stops without the flag before the starts does not come past the typing
 stops_as : (Rises : List ℕ → Type 0) (content : Content) (file : List ℕ) (observer : Option (List ℕ)) (s : Status) (t : List ℕ)

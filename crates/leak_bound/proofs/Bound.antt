@@ -1,40 +1,57 @@
--- What is determined by a record is one of at most (k + 1) ^ (levels * d) things.
-use Rattle.std.proofs.Common.{◌≡◌, ℕ, suc, ◌+◌, ◌*◌, ◌^◌, ◌<◌, ◌≤◌, List, length, map, Bool, subst, arith}
-use Rattle.leak_bound.specs.Records.{Entry, Fits, IsCut, below, distinct_count, levels_of, IsIn, IsRecord, Tests}
-use Rattle.leak_bound.proofs.Counting.{code, code_below, questions, length-questions, same_answers, answer_at, record_same, record_fits}
-use Rattle.leak_bound.proofs.Few.{count_few}
+-- Numbers below the sharp count tell records apart, and the sharp count is at most a power.
+use Rattle.std.proofs.Common.{◌≡◌, ℕ, zero, suc, ◌+◌, ◌*◌, ◌^◌, ◌<◌, ◌≤◌, List, length, ◌⊎◌, refl, sym, ap, ◌∙◌, subst, arith}
+use Rattle.std.specs.Prelude.{Bool, true, false, cond}
+use Rattle.std.proofs.lemmas.Nat.{pow-add, mul-le}
+use Rattle.std.proofs.Math.Nat.{pow-zero, pow-le-pow_left}
+use Rattle.label_lattice.specs.Lattice.{Lattice}
+use Rattle.label_lattice.specs.Order.{count_not_below}
+use Rattle.leak_bound.specs.Records.{Entry, Fits, NeverFalls}
+use Rattle.leak_bound.specs.Rising.{rising, sharp}
+use Rattle.leak_bound.proofs.Choose.{rising-power, rising-none, rising-le}
+use Rattle.leak_bound.proofs.Counting.{picked, is_at, AtMost, Under, LevelsUnder, rank_under, number, number_below, number_same, same_ranks}
 
--- with any number of thresholds
-module _ {X V : Type 0} (see : X → V) (record_of : X → List Entry) (same : V → V → Bool) (tests : Tests same) (ls : List ℕ) (d k : ℕ) (short : (x : X)
-    → length (record_of x) ≤ k) (determined : (x y : X) → ((l j : ℕ) → IsIn l ls → 0 < j → j ≤ d → below l j (record_of x) ≡ below l j (record_of y))
-    → see x ≡ see y) where
-  abbrev number : X → ℕ
-  number x = code (k + 1) (questions ls d) (record_of x)
+-- a record of counts that never fall for each level, each at most what ds tells for its level, with levels below n, at
+-- most ks l of level l
+pub record IsCounted (n : ℕ) (ds ks : ℕ → ℕ) (r : List Entry) : Type 0 where
+  pub up : AtMost ds r
+  pub rises : NeverFalls r
+  pub levels : LevelsUnder n r
+  pub short : (l : ℕ) → picked (is_at l) r ≤ ks l
 
-  number_below : (x : X) → number x < (k + 1) ^ (length ls * d)
-  number_below x =
-      subst (λ n. number x < (k + 1) ^ n) (length-questions ls d) (code_below k (questions ls d) (record_of x) (short x))
+-- its number is below the sharp count
+pub counted_below : (n : ℕ) (ds ks : ℕ → ℕ) (r : List Entry) → IsCounted n ds ks r → number ds ks n r < sharp (λ l. suc (ds l)) n ks
+counted_below n ds ks r c = number_below ds ks n r c.up c.rises c.short
 
-  same_number : (x y : X) → number x ≡ number y → see x ≡ see y
-  same_number x y e =
-      let answers = same_answers k (questions ls d) (record_of x) (record_of y) (short x) (short y) e in
-      determined x y (answer_at ls d (record_of x) (record_of y) answers)
+-- and tells it apart from others whose entries have its levels: of the same length, or of entries that are all below ds
+pub counted_same : (n : ℕ) (ds ks : ℕ → ℕ) (r r' : List Entry) → Fits r r' → (length r ≡ length r') ⊎ (Under ds r × Under ds r') → IsCounted n ds ks r
+    → IsCounted n ds ks r' → number ds ks n r ≡ number ds ks n r' → r ≡ r'
+counted_same n ds ks r r' fits ends c c' e =
+    same_ranks n ds ks r r' fits ends c.up c'.up c.rises c'.rises c.levels c'.levels c.short c'.short
+    (number_same ds ks n r r' (λ l. rank_under ds l (ks l) r c.up c.rises (c.short l)) (λ l. rank_under ds l (ks l) r' c'.up c'.rises (c'.short l)) e)
 
-  count_records : (xs : List X) → distinct_count same (map see xs) ≤ (k + 1) ^ (length ls * d)
-  count_records xs = count_few see number ((k + 1) ^ (length ls * d)) number_below same tests same_number xs
-
--- records of one length
-pub count_bound : {X V : Type 0} (see : X → V) (record_of : X → List Entry) (same : V → V → Bool) → Tests same → (ls : List ℕ) (d k : ℕ)
-    → ((x : X) → IsRecord ls d k (record_of x)) → ((x y : X) → levels_of (record_of x) ≡ levels_of (record_of y))
-    → ((x y : X) → record_of x ≡ record_of y → see x ≡ see y) → (xs : List X) → distinct_count same (map see xs) ≤ (k + 1) ^ (length ls * d)
-count_bound see record_of same tests ls d k good levels determined xs =
-    count_records see record_of same tests ls d k (λ x. let long = (good x).long in omega arith)
-    (λ x y s. determined x y (record_same ls d (record_of x) (record_of y) (levels x y) (good x).within (good y).within (good x).rises (good y).rises s)) xs
-
--- records of which some may end early: one threshold more
-pub count_cut : {X V : Type 0} (see : X → V) (record_of : X → List Entry) (same : V → V → Bool) → Tests same → (ls : List ℕ) (d k : ℕ)
-    → ((x : X) → IsCut ls d k (record_of x)) → ((x y : X) → Fits (record_of x) (record_of y)) → ((x y : X) → record_of x ≡ record_of y → see x ≡ see y)
-    → (xs : List X) → distinct_count same (map see xs) ≤ (k + 1) ^ (length ls * suc d)
-count_cut see record_of same tests ls d k good fits determined xs =
-    count_records see record_of same tests ls (suc d) k (λ x. (good x).short)
-    (λ x y s. determined x y (record_fits ls d (record_of x) (record_of y) (fits x y) (good x).within (good y).within (good x).rises (good y).rises s)) xs
+-- Where no level has more than c + 1 values and no more than k mitigations, and a level that flows to the observer has none,
+-- the sharp count is at most a power.
+pub sharp_within : (lat : Lattice) (o c k n : ℕ) (values counts : ℕ → ℕ) → ((l : ℕ) → values l ≤ suc c) → ((l : ℕ) → counts l ≤ k)
+    → ((l : ℕ) → lat.flows l o ≡ true → counts l ≡ 0) → sharp values n counts ≤ (k + 1) ^ (count_not_below lat o n * c)
+sharp_within lat o c k zero values counts few h low =
+    let e : 0 ≡ 0 * c = omega arith in
+    subst (λ z. 1 ≤ (k + 1) ^ z) e (omega (arith, pow-zero (k + 1)))
+sharp_within lat o c k (suc n) values counts few h low = go (lat.flows n o) refl (sharp_within lat o c k n values counts few h low)
+  where
+    go : (b : Bool) → lat.flows n o ≡ b → sharp values n counts ≤ (k + 1) ^ (count_not_below lat o n * c)
+        → rising (values n) (counts n) * sharp values n counts ≤ (k + 1) ^ ((count_not_below lat o n + cond b 0 1) * c)
+    go true e ih =
+        let m = count_not_below lat o n in
+        let one : rising (values n) (counts n) ≡ 1 = ap (λ z. rising (values n) z) (low n e) ∙ rising-none (values n) in
+        let times = ap (λ z. z * sharp values n counts) one in
+        let same : m * c ≡ (m + 0) * c = omega arith in
+        subst (λ z. rising (values n) (counts n) * sharp values n counts ≤ (k + 1) ^ z) same (omega (arith, ih, times))
+    go false e ih =
+        let m = count_not_below lat o n in
+        let up : counts n + 1 ≤ k + 1 = omega (arith, h n) in
+        let one : rising (values n) (counts n) ≤ (k + 1) ^ c =
+        omega (arith, rising-le (values n) (suc c) (counts n) (few n), rising-power c (counts n), pow-le-pow_left up c) in
+        let same : c + m * c ≡ (m + 1) * c = omega arith in
+        subst (λ z. rising (values n) (counts n) * sharp values n counts ≤ (k + 1) ^ z) same
+        (subst (λ z. rising (values n) (counts n) * sharp values n counts ≤ z) (sym (pow-add (k + 1) c (m * c)))
+        (mul-le (rising (values n) (counts n)) (sharp values n counts) ((k + 1) ^ c) ((k + 1) ^ (m * c)) one ih))

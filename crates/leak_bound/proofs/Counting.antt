@@ -1,36 +1,14 @@
--- Different sequences have different numbers below a power.
-use Rattle.std.proofs.Common.{◌≡◌, ℕ, zero, suc, ◌+◌, ◌*◌, ◌^◌, ◌<◌, ◌≤◌, List, [], ◌∷◌, ◌++◌, length, Bool, true, false, refl, sym, ap, subst, ◌⊎◌, inl, inr}
-use Rattle.std.proofs.Common.{⊎_elim, arith, length-append}
-use Rattle.std.specs.Prelude.{cond, eqb, ltb, ◌&&◌}
-use Rattle.std.proofs.Math.Nat.{pow-zero, pow-succ', mul-le-mul_left}
-use Rattle.std.proofs.lemmas.Bool.{cases_eq, cases_order, cases_Bool, eqb-true, eq-eqb, ltb-true, lt-ltb, le-ltb, and_from, and_right, and_parts, cond-true}
-use Rattle.std.proofs.lemmas.Bool.{cond-false}
-use Rattle.leak_bound.specs.Records.{Entry, Fits, levels_of, FromOn, NeverFalls, IsIn, Within, below}
+-- A record's number: for each level, how many lists of miss counts come before those of the level.
+use Rattle.std.proofs.Common.{◌≡◌, ℕ, zero, suc, ◌+◌, ◌-◌, ◌*◌, ◌<◌, ◌≤◌, List, [], ◌∷◌, ◌++◌, length, Bool, true, false, refl, sym, ap, ◌∙◌, subst, ◌⊎◌}
+use Rattle.std.proofs.Common.{inl, inr, ⊎_elim, arith}
+use Rattle.std.specs.Prelude.{cond, eqb}
+use Rattle.std.proofs.Math.Nat.{mul-le-mul_left}
+use Rattle.std.proofs.lemmas.Bool.{cases_eq, cases_order, eqb-true, eq-eqb}
+use Rattle.leak_bound.specs.Records.{Entry, Each, Fits, FromOn, NeverFalls}
+use Rattle.leak_bound.specs.Rising.{rising, sharp}
+use Rattle.leak_bound.proofs.Choose.{pascal-at, some-at, rising-le}
 
--- a question: a level and a threshold
-abbrev pub Question : Type 0
-Question = ℕ × ℕ
-
--- the answers as one number, in base b
-abbrev pub code : ℕ → List Question → List Entry → ℕ
-code b [] r = 0
-code b (q ∷ qs) r = below q.0 q.1 r + b * code b qs r
-
-bit_le : (c : Bool) → cond c 1 0 ≤ 1
-bit_le true = omega arith
-bit_le false = omega arith
-
-below_le : (l j : ℕ) (r : List Entry) → below l j r ≤ length r
-below_le l j [] = omega arith
-below_le l j (e ∷ r) = omega (arith, below_le l j r, bit_le (eqb l e.0 && ltb e.1 j))
-
-pub code_below : (k : ℕ) (qs : List Question) (r : List Entry) → length r ≤ k → code (k + 1) qs r < (k + 1) ^ length qs
-code_below k [] r h = omega (arith, pow-zero (k + 1))
-code_below k (q ∷ qs) r h =
-    let c = code (k + 1) qs r in
-    let ih : c + 1 ≤ (k + 1) ^ length qs = omega (arith, code_below k qs r h) in
-    omega (arith, mul-le-mul_left (k + 1) ih, below_le q.0 q.1 r, pow-succ' (k + 1) (length qs))
-
+-- equal numbers in one base have equal digits
 pub digits_same : (b x c x' c' : ℕ) → x < b → x' < b → x + b * c ≡ x' + b * c' → (x ≡ x') × (c ≡ c')
 digits_same b x c x' c' h h' e =
     ⊎_elim
@@ -40,125 +18,191 @@ digits_same b x c x' c' h h' e =
     (λ (lt : c' < c). let up : c' + 1 ≤ c = omega arith in absurd (omega (arith, mul-le-mul_left b up))))
     (cases_order c c')
 
-abbrev pub SameAnswers : List Question → List Entry → List Entry → Type 0
-SameAnswers [] r r' = Unit {0}
-SameAnswers (q ∷ qs) r r' = (below q.0 q.1 r ≡ below q.0 q.1 r') × SameAnswers qs r r'
+-- how many entries are of a level that is picked
+abbrev pub picked : (ℕ → Bool) → List Entry → ℕ
+picked pick [] = 0
+picked pick (e ∷ r) = cond (pick e.0) 1 0 + picked pick r
 
-pub same_answers : (k : ℕ) (qs : List Question) (r r' : List Entry) → length r ≤ k → length r' ≤ k
-    → code (k + 1) qs r ≡ code (k + 1) qs r' → SameAnswers qs r r'
-same_answers k [] r r' h h' e = tt
-same_answers k (q ∷ qs) r r' h h' e =
-    let d = digits_same (k + 1) (below q.0 q.1 r) (code (k + 1) qs r) (below q.0 q.1 r') (code (k + 1) qs r') (omega (arith, below_le q.0 q.1 r))
-    (omega (arith, below_le q.0 q.1 r')) e in
-    (d.0, same_answers k qs r r' h h' d.1)
+abbrev pub is_at : ℕ → ℕ → Bool
+is_at l x = eqb x l
 
-abbrev thresholds : ℕ → ℕ → List Question
-thresholds l zero = []
-thresholds l (suc j) = (l, suc j) ∷ thresholds l j
+bit_le : (b : Bool) → cond b 1 0 ≤ 1
+bit_le true = omega arith
+bit_le false = omega arith
 
-abbrev pub questions : List ℕ → ℕ → List Question
-questions [] d = []
-questions (l ∷ ls) d = thresholds l d ++ questions ls d
+pub picked_length : (pick : ℕ → Bool) (r : List Entry) → picked pick r ≤ length r
+picked_length pick [] = omega arith
+picked_length pick (e ∷ r) = omega (arith, bit_le (pick e.0), picked_length pick r)
 
-length-thresholds : (l d : ℕ) → length (thresholds l d) ≡ d
-length-thresholds l zero = refl
-length-thresholds l (suc d) = ap suc (length-thresholds l d)
+pub picked_all : (r : List Entry) → picked (λ l. true) r ≡ length r
+picked_all [] = refl
+picked_all (e ∷ r) = omega (arith, picked_all r)
 
-pub length-questions : (ls : List ℕ) (d : ℕ) → length (questions ls d) ≡ length ls * d
-length-questions [] d = omega arith
-length-questions (l ∷ ls) d = omega (arith, length-append (thresholds l d) (questions ls d), length-thresholds l d, length-questions ls d)
+pub picked-append : (pick : ℕ → Bool) (a b : List Entry) → picked pick (a ++ b) ≡ picked pick a + picked pick b
+picked-append pick [] b = omega arith
+picked-append pick (e ∷ a) b = omega (arith, picked-append pick a b)
 
-same_parts : (a b : List Question) (r r' : List Entry) → SameAnswers (a ++ b) r r' → SameAnswers a r r' × SameAnswers b r r'
-same_parts [] b r r' s = (tt, s)
-same_parts (q ∷ a) b r r' s = let p = same_parts a b r r' s.1 in ((s.0, p.0), p.1)
-
-at_threshold : (l d : ℕ) (r r' : List Entry) → SameAnswers (thresholds l d) r r' → (j : ℕ) → 0 < j → j ≤ d → below l j r ≡ below l j r'
-at_threshold l zero r r' s j p h = absurd (omega arith)
-at_threshold l (suc d) r r' s j p h =
-    ⊎_elim
-    (λ (e : j ≡ suc d). subst (λ n. below l n r ≡ below l n r') (sym e) s.0)
-    (λ (ne : j ≡ suc d → ⊥). at_threshold l d r r' s.1 j p (omega arith))
-    (cases_eq j (suc d))
-
-pub answer_at : (ls : List ℕ) (d : ℕ) (r r' : List Entry) → SameAnswers (questions ls d) r r' → (l j : ℕ) → IsIn l ls → 0 < j
-    → j ≤ d → below l j r ≡ below l j r'
-answer_at [] d r r' s l j i p h = absurd i
-answer_at (m ∷ ls) d r r' s l j (inl e) p h =
-    subst (λ n. below n j r ≡ below n j r') (sym e) (at_threshold m d r r' (same_parts (thresholds m d) (questions ls d) r r' s).0 j p h)
-answer_at (m ∷ ls) d r r' s l j (inr i) p h =
-    answer_at ls d r r' (same_parts (thresholds m d) (questions ls d) r r' s).1 l j i p h
-
--- entries from m on are not below m
-none_below : (l m : ℕ) (r : List Entry) → FromOn l m r → below l m r ≡ 0
-none_below l m [] f = refl
-none_below l m (e ∷ r) f =
-    let rest = none_below l m r f.1 in
-    ⊎_elim
-    (λ (y : (eqb l e.0 && ltb e.1 m) ≡ true).
-    let p = and_parts (eqb l e.0) (ltb e.1 m) y in
-    let lt = ltb-true e.1 m p.1 in
-    let ge = f.0 (eqb-true l e.0 p.0) in absurd (omega arith))
-    (λ (n : (eqb l e.0 && ltb e.1 m) ≡ false). omega (arith, rest, cond-false {A = ℕ} (eqb l e.0 && ltb e.1 m) 1 0 n))
-    (cases_Bool (eqb l e.0 && ltb e.1 m))
-
--- a lower head shows at the threshold of the higher one
-lower_head : (l m m' : ℕ) (r r' : List Entry) → FromOn l m' r' → below l m' ((l, m) ∷ r) ≡ below l m' ((l, m') ∷ r') → m < m' → ⊥
-lower_head l m m' r r' f e lt =
-    let here = cond-true {A = ℕ} (eqb l l && ltb m m') 1 0 (and_from _ _ (eq-eqb l l refl) (lt-ltb m m' lt)) in
-    let there = cond-false {A = ℕ} (eqb l l && ltb m' m') 1 0 (and_right _ _ (le-ltb m' m' (omega arith))) in
-    omega (arith, none_below l m' r' f, here, there, e)
-
--- an entry below a threshold is counted
-one_here : (x : Entry) (j : ℕ) (r : List Entry) → x.1 < j → 0 < below x.0 j (x ∷ r)
-one_here x j r h = omega (arith, cond-true {A = ℕ} (eqb x.0 x.0 && ltb x.1 j) 1 0 (and_from _ _ (eq-eqb x.0 x.0 refl) (lt-ltb x.1 j h)))
-
-pub record_same : (ls : List ℕ) (d : ℕ) (r r' : List Entry) → levels_of r ≡ levels_of r' → Within ls d r → Within ls d r' → NeverFalls r → NeverFalls r'
-    → ((l j : ℕ) → IsIn l ls → 0 < j → j ≤ d → below l j r ≡ below l j r') → r ≡ r'
-record_same ls d [] [] e w w' n n' s = refl
-record_same ls d [] (x ∷ r') e w w' n n' s = cc
-record_same ls d (x ∷ r) [] e w w' n n' s = cc
-record_same ls d ((l, m) ∷ r) ((l', m') ∷ r') e w w' n n' s =
-    let le : l ≡ l' = cc in
-    let re : levels_of r ≡ levels_of r' = cc in
-    go l' le n' s (cases_order m m') (λ t. record_same ls d r r' re w.2 w'.2 n.1 n'.1 t)
+-- entries of a level that is picked are among those that are picked
+pub picked_at : (pick : ℕ → Bool) (l : ℕ) → pick l ≡ true → (r : List Entry) → picked (is_at l) r ≤ picked pick r
+picked_at pick l f [] = omega arith
+picked_at pick l f (e ∷ r) = go (eqb e.0 l) refl (picked_at pick l f r)
   where
-    go : (l' : ℕ) → l ≡ l' → NeverFalls ((l', m') ∷ r') → ((k j : ℕ) → IsIn k ls → 0 < j → j ≤ d → below k j ((l, m) ∷ r) ≡ below k j ((l', m') ∷ r'))
-        → (m ≡ m') ⊎ ((m < m') ⊎ (m' < m)) → (((k j : ℕ) → IsIn k ls → 0 < j → j ≤ d → below k j r ≡ below k j r') → r ≡ r') → (l, m) ∷ r ≡ (l', m') ∷ r'
-    go l' le n' s (inl me) rec =
-        let rest = rec (λ k j i p h.
-        let a = ap (λ x. cond {A = ℕ} (eqb k x && ltb m j) 1 0) le in
-        let b = ap (λ x. cond {A = ℕ} (eqb k l' && ltb x j) 1 0) me in
-        omega (arith, s k j i p h, a, b)) in
-        cc
-    go l' le n' s (inr (inl lt)) rec =
-        absurd (lower_head l m m' r r' (subst (λ k. FromOn k m' r') (sym le) n'.0)
-        (subst (λ k. below l m' ((l, m) ∷ r) ≡ below l m' ((k, m') ∷ r')) (sym le) (s l m' w.0 (omega arith) w'.1)) lt)
-    go l' le n' s (inr (inr lt)) rec =
-        absurd (lower_head l m' m r' r n.0 (sym (subst (λ k. below l m ((l, m) ∷ r) ≡ below l m ((k, m') ∷ r')) (sym le) (s l m w.0 (omega arith) w.1))) lt)
+    go : (b : Bool) → eqb e.0 l ≡ b → picked (is_at l) r ≤ picked pick r → cond b 1 0 + picked (is_at l) r ≤ cond (pick e.0) 1 0 + picked pick r
+    go true q ih = let here = ap (λ z. cond {A = ℕ} (pick z) 1 0) (eqb-true e.0 l q) ∙ ap (λ z. cond {A = ℕ} z 1 0) f in omega (arith, ih, here)
+    go false q ih = omega (arith, ih)
 
--- records of which one may end before the other: the entry that the other lacks shows at the threshold above all
-pub record_fits : (ls : List ℕ) (d : ℕ) (r r' : List Entry) → Fits r r' → Within ls d r → Within ls d r' → NeverFalls r → NeverFalls r'
-    → ((l j : ℕ) → IsIn l ls → 0 < j → j ≤ suc d → below l j r ≡ below l j r') → r ≡ r'
-record_fits ls d [] [] e w w' n n' s = refl
-record_fits ls d [] (x ∷ r') e w w' n n' s = let up = w'.1 in
-    absurd (omega (arith, one_here x (suc d) r' (omega arith), s x.0 (suc d) w'.0 (omega arith) (omega arith)))
-record_fits ls d (x ∷ r) [] e w w' n n' s = let up = w.1 in
-    absurd (omega (arith, one_here x (suc d) r (omega arith), s x.0 (suc d) w.0 (omega arith) (omega arith)))
-record_fits ls d ((l, m) ∷ r) ((l', m') ∷ r') e w w' n n' s = go l' e.0 n' s (cases_order m m') (λ t. record_fits ls d r r' e.1 w.2 w'.2 n.1 n'.1 t)
+pub none_picked : (pick : ℕ → Bool) (r : List Entry) → picked pick r ≡ 0 → Each (λ e. pick e.0 ≡ false) r
+none_picked pick [] h = tt
+none_picked pick (e ∷ r) h = (go (pick e.0) h, none_picked pick r (omega (arith, h)))
   where
-    go : (l' : ℕ) → l ≡ l' → NeverFalls ((l', m') ∷ r') → ((k j : ℕ) → IsIn k ls → 0 < j → j ≤ suc d → below k j ((l, m) ∷ r) ≡ below k j ((l', m') ∷ r'))
-        → (m ≡ m') ⊎ ((m < m') ⊎ (m' < m)) → (((k j : ℕ) → IsIn k ls → 0 < j → j ≤ suc d → below k j r ≡ below k j r') → r ≡ r') → (l, m) ∷ r ≡ (l', m') ∷ r'
-    go l' le n' s (inl me) rec =
-        let rest = rec (λ k j i p h.
-        let a = ap (λ x. cond {A = ℕ} (eqb k x && ltb m j) 1 0) le in
-        let b = ap (λ x. cond {A = ℕ} (eqb k l' && ltb x j) 1 0) me in
-        omega (arith, s k j i p h, a, b)) in
+    go : (b : Bool) → cond b 1 0 + picked pick r ≡ 0 → b ≡ false
+    go true q = absurd (omega (arith, q))
+    go false q = refl
+
+-- records of one length with equal levels
+pub picked_fits : (pick : ℕ → Bool) (r r' : List Entry) → Fits r r' → length r ≡ length r' → picked pick r ≡ picked pick r'
+picked_fits pick [] [] f e = refl
+picked_fits pick [] (y ∷ r') f e = absurd (omega (arith, e))
+picked_fits pick (x ∷ r) [] f e = absurd (omega (arith, e))
+picked_fits pick (x ∷ r) (y ∷ r') f e =
+    let a = ap (λ z. cond {A = ℕ} (pick z) 1 0) f.0 in
+    omega (arith, a, picked_fits pick r r' f.1 (omega (arith, e)))
+
+-- each entry is at most what ds tells for its level
+abbrev pub AtMost : (ℕ → ℕ) → List Entry → Type 0
+AtMost ds r = Each (λ e. e.1 ≤ ds e.0) r
+
+-- each entry is below that
+abbrev pub Under : (ℕ → ℕ) → List Entry → Type 0
+Under ds r = Each (λ e. e.1 < ds e.0) r
+
+-- each level is below n
+abbrev pub LevelsUnder : ℕ → List Entry → Type 0
+LevelsUnder n r = Each (λ e. e.0 < n) r
+
+-- Of the lists of k numbers up to d that never fall, those that begin as the entries of level l do and go on
+-- higher. Where fewer than k entries are of the level, d stands for those that are missing.
+abbrev pub rank : ℕ → ℕ → ℕ → List Entry → ℕ
+rank d l k [] = 0
+rank d l k (e ∷ r) = cond (eqb e.0 l) (rising (d - e.1) k + rank d l (k - 1) r) (rank d l k r)
+
+pub rank_below : (ds : ℕ → ℕ) (l m k : ℕ) (r : List Entry) → AtMost ds r → NeverFalls r → FromOn l m r → picked (is_at l) r ≤ k → m ≤ ds l
+    → rank (ds l) l k r < rising (suc (ds l) - m) k
+rank_below ds l m k [] up n f h le = some-at (ds l) m k le
+rank_below ds l m k (x ∷ r) up n f h le = go (eqb x.0 l) refl k h (λ m' k' f' h' le'. rank_below ds l m' k' r up.1 n.1 f' h' le')
+  where
+    go : (b : Bool) → eqb x.0 l ≡ b → (k : ℕ) → cond b 1 0 + picked (is_at l) r ≤ k
+        → ((m' k' : ℕ) → FromOn l m' r → picked (is_at l) r ≤ k' → m' ≤ ds l → rank (ds l) l k' r < rising (suc (ds l) - m') k')
+        → cond b (rising (ds l - x.1) k + rank (ds l) l (k - 1) r) (rank (ds l) l k r) < rising (suc (ds l) - m) k
+    go false e k h rec = rec m k f.1 (omega (arith, h)) le
+    go true e zero h rec = absurd (omega (arith, h))
+    go true e (suc k) h rec =
+        let here : x.0 ≡ l = eqb-true x.0 l e in
+        let low : m ≤ x.1 = f.0 (sym here) in
+        let top : x.1 ≤ ds l = subst (λ z. x.1 ≤ ds z) here up.0 in
+        let one : suc k - 1 ≡ k = omega arith in
+        let ih = rec x.1 k (subst (λ z. FromOn z x.1 r) here n.0) (omega (arith, h)) top in
+        let down : suc (ds l) - x.1 ≤ suc (ds l) - m = omega arith in
+        let s = ap (λ z. rank (ds l) l z r) one in
+        omega (arith, ih, s, pascal-at (ds l) x.1 k top, rising-le (suc (ds l) - x.1) (suc (ds l) - m) (suc k) down)
+
+-- a lower head gives a greater rank
+lower_head : (ds : ℕ → ℕ) (l m m' k : ℕ) (r r' : List Entry) → AtMost ds ((l, m') ∷ r') → NeverFalls ((l, m') ∷ r') → picked (is_at l) ((l, m') ∷ r') ≤ k
+    → rank (ds l) l k ((l, m) ∷ r) ≡ rank (ds l) l k ((l, m') ∷ r') → m < m' → ⊥
+lower_head ds l m m' k r r' up n h e lt =
+    let same = eq-eqb l l refl in
+    let a = ap (λ b. cond {A = ℕ} b (rising (ds l - m) k + rank (ds l) l (k - 1) r) (rank (ds l) l k r)) same in
+    let top : m' ≤ ds l = up.0 in
+    let b = rank_below ds l m' k ((l, m') ∷ r') up n (λ q. omega arith, n.0) h top in
+    let down : suc (ds l) - m' ≤ ds l - m = omega arith in
+    omega (arith, a, b, e, rising-le (suc (ds l) - m') (ds l - m) k down)
+
+-- an entry that the other record lacks
+one_more : (d l k : ℕ) (x : Entry) (r : List Entry) → x.1 < d → x.0 ≡ l → 0 < rank d l k (x ∷ r)
+one_more d l k x r lt here =
+    let a = ap (λ b. cond {A = ℕ} b (rising (d - x.1) k + rank d l (k - 1) r) (rank d l k r)) (eq-eqb x.0 l here) in
+    let e : suc (d - 1) - x.1 ≡ d - x.1 = omega arith in
+    let some = subst (λ z. 0 < rising z k) e (some-at (d - 1) x.1 k (omega arith)) in
+    omega (arith, a, some)
+
+-- counts for the rest
+abbrev less : ℕ → (ℕ → ℕ) → ℕ → ℕ
+less x ks l = ks l - cond (eqb x l) 1 0
+
+rest_fits : (x : Entry) (r : List Entry) (ks : ℕ → ℕ) → ((l : ℕ) → picked (is_at l) (x ∷ r) ≤ ks l) → (l : ℕ) → picked (is_at l) r ≤ less x.0 ks l
+rest_fits x r ks h l = let a = h l in omega (arith, a)
+
+rest_rank : (d l k a : ℕ) (b : Bool) (r r' : List Entry) → cond b (a + rank d l (k - 1) r) (rank d l k r) ≡ cond b (a + rank d l (k - 1) r') (rank d l k r')
+    → rank d l (k - cond b 1 0) r ≡ rank d l (k - cond b 1 0) r'
+rest_rank d l k a true r r' e = omega (arith, e)
+rest_rank d l k a false r r' e = let z : k - 0 ≡ k = omega arith in subst (λ z. rank d l z r ≡ rank d l z r') (sym z) e
+
+pub same_ranks : (n : ℕ) (ds ks : ℕ → ℕ) (r r' : List Entry) → Fits r r' → (length r ≡ length r') ⊎ (Under ds r × Under ds r') → AtMost ds r → AtMost ds r'
+    → NeverFalls r → NeverFalls r' → LevelsUnder n r → LevelsUnder n r' → ((l : ℕ) → picked (is_at l) r ≤ ks l) → ((l : ℕ) → picked (is_at l) r' ≤ ks l)
+    → ((l : ℕ) → l < n → rank (ds l) l (ks l) r ≡ rank (ds l) l (ks l) r') → r ≡ r'
+same_ranks n ds ks [] [] f ends up up' m m' in_ in' h h' s = refl
+same_ranks n ds ks [] (x ∷ r') f (inl e) up up' m m' in_ in' h h' s = absurd (omega (arith, e))
+same_ranks n ds ks [] (x ∷ r') f (inr u) up up' m m' in_ in' h h' s = absurd (omega (arith, s x.0 in'.0, one_more (ds x.0) x.0 (ks x.0) x r' u.1.0 refl))
+same_ranks n ds ks (x ∷ r) [] f (inl e) up up' m m' in_ in' h h' s = absurd (omega (arith, e))
+same_ranks n ds ks (x ∷ r) [] f (inr u) up up' m m' in_ in' h h' s = absurd (omega (arith, s x.0 in_.0, one_more (ds x.0) x.0 (ks x.0) x r u.0.0 refl))
+same_ranks n ds ks ((l, c) ∷ r) ((l', c') ∷ r') f ends up up' m m' in_ in' h h' s =
+    go l' f.0 up' m' h' s (cases_order c c')
+    (λ t. same_ranks n ds (less l ks) r r' f.1 (tails ends) up.1 up'.1 m.1 m'.1 in_.1 in'.1 (rest_fits (l, c) r ks h)
+    (subst (λ z. (q : ℕ) → picked (is_at q) r' ≤ less z ks q) (sym f.0) (rest_fits (l', c') r' ks h')) t)
+  where
+    tails : (length ((l, c) ∷ r) ≡ length ((l', c') ∷ r')) ⊎ (Under ds ((l, c) ∷ r) × Under ds ((l', c') ∷ r'))
+        → (length r ≡ length r') ⊎ (Under ds r × Under ds r')
+    tails (inl e) = inl (omega (arith, e))
+    tails (inr u) = inr (u.0.1, u.1.1)
+
+    go : (l' : ℕ) → l ≡ l' → AtMost ds ((l', c') ∷ r') → NeverFalls ((l', c') ∷ r') → ((q : ℕ) → picked (is_at q) ((l', c') ∷ r') ≤ ks q)
+        → ((q : ℕ) → q < n → rank (ds q) q (ks q) ((l, c) ∷ r) ≡ rank (ds q) q (ks q) ((l', c') ∷ r')) → (c ≡ c') ⊎ ((c < c') ⊎ (c' < c))
+        → (((q : ℕ) → q < n → rank (ds q) q (less l ks q) r ≡ rank (ds q) q (less l ks q) r') → r ≡ r') → (l, c) ∷ r ≡ (l', c') ∷ r'
+    go l' le up' m' h' s (inl ce) rec =
+        let x : Entry = (l, c) in
+        let y : Entry = (l', c') in
+        let heads : x ≡ y = cc in
+        let rest : r ≡ r' = rec (λ q lt. rest_rank (ds q) q (ks q) (rising (ds q - c) (ks q)) (eqb l q) r r'
+        (s q lt ∙ ap (λ (y : Entry). rank (ds q) q (ks q) (y ∷ r')) (sym heads))) in
         cc
-    go l' le n' s (inr (inl lt)) rec =
-        let up = w'.1 in
-        absurd (lower_head l m m' r r' (subst (λ k. FromOn k m' r') (sym le) n'.0)
-        (subst (λ k. below l m' ((l, m) ∷ r) ≡ below l m' ((k, m') ∷ r')) (sym le) (s l m' w.0 (omega arith) (omega arith))) lt)
-    go l' le n' s (inr (inr lt)) rec =
-        let up = w.1 in
-        absurd (lower_head l m' m r' r n.0
-        (sym (subst (λ k. below l m ((l, m) ∷ r) ≡ below l m ((k, m') ∷ r')) (sym le) (s l m w.0 (omega arith) (omega arith)))) lt)
+    go l' le up' m' h' s (inr (inl lt)) rec =
+        absurd (lower_head ds l c c' (ks l) r r' (subst (λ z. AtMost ds ((z, c') ∷ r')) (sym le) up') (subst (λ z. NeverFalls ((z, c') ∷ r')) (sym le) m')
+        (subst (λ z. picked (is_at l) ((z, c') ∷ r') ≤ ks l) (sym le) (h' l))
+        (subst (λ z. rank (ds l) l (ks l) ((l, c) ∷ r) ≡ rank (ds l) l (ks l) ((z, c') ∷ r')) (sym le) (s l in_.0)) lt)
+    go l' le up' m' h' s (inr (inr lt)) rec =
+        absurd (lower_head ds l c' c (ks l) r' r up m (h l)
+        (sym (subst (λ z. rank (ds l) l (ks l) ((l, c) ∷ r) ≡ rank (ds l) l (ks l) ((z, c') ∷ r')) (sym le) (s l in_.0))) lt)
+
+-- the ranks of the levels below n as one number
+abbrev pub number : (ℕ → ℕ) → (ℕ → ℕ) → ℕ → List Entry → ℕ
+number ds ks zero r = 0
+number ds ks (suc l) r = rank (ds l) l (ks l) r + rising (suc (ds l)) (ks l) * number ds ks l r
+
+from_zero : (l : ℕ) (r : List Entry) → FromOn l 0 r
+from_zero l [] = tt
+from_zero l (e ∷ r) = (λ q. omega arith, from_zero l r)
+
+pub rank_under : (ds : ℕ → ℕ) (l k : ℕ) (r : List Entry) → AtMost ds r → NeverFalls r → picked (is_at l) r ≤ k → rank (ds l) l k r < rising (suc (ds l)) k
+rank_under ds l k r up m h =
+    let e : suc (ds l) - 0 ≡ suc (ds l) = omega arith in
+    subst (λ z. rank (ds l) l k r < rising z k) e (rank_below ds l 0 k r up m (from_zero l r) h (omega arith))
+
+pub number_below : (ds ks : ℕ → ℕ) (n : ℕ) (r : List Entry) → AtMost ds r → NeverFalls r → ((l : ℕ) → picked (is_at l) r ≤ ks l)
+    → number ds ks n r < sharp (λ l. suc (ds l)) n ks
+number_below ds ks zero r up m h = omega arith
+number_below ds ks (suc l) r up m h =
+    let b = rising (suc (ds l)) (ks l) in
+    let c = number ds ks l r in
+    let ih : c + 1 ≤ sharp (λ z. suc (ds z)) l ks = omega (arith, number_below ds ks l r up m h) in
+    omega (arith, rank_under ds l (ks l) r up m (h l), mul-le-mul_left b ih)
+
+pub number_same : (ds ks : ℕ → ℕ) (n : ℕ) (r r' : List Entry) → ((l : ℕ) → rank (ds l) l (ks l) r < rising (suc (ds l)) (ks l))
+    → ((l : ℕ) → rank (ds l) l (ks l) r' < rising (suc (ds l)) (ks l)) → number ds ks n r ≡ number ds ks n r' → (l : ℕ) → l < n
+    → rank (ds l) l (ks l) r ≡ rank (ds l) l (ks l) r'
+number_same ds ks zero r r' h h' e l lt = absurd (omega arith)
+number_same ds ks (suc n) r r' h h' e l lt =
+    let p = digits_same (rising (suc (ds n)) (ks n)) (rank (ds n) n (ks n) r) (number ds ks n r) (rank (ds n) n (ks n) r') (number ds ks n r') (h n) (h' n) e in
+    ⊎_elim
+    (λ (q : l ≡ n). subst (λ z. rank (ds z) z (ks z) r ≡ rank (ds z) z (ks z) r') (sym q) p.0)
+    (λ (ne : l ≡ n → ⊥). number_same ds ks n r r' h h' p.1 l (omega arith))
+    (cases_eq l n)

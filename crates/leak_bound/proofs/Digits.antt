@@ -2,7 +2,8 @@
 use Rattle.std.proofs.Common.{◌≡◌, ℕ, zero, suc, ◌+◌, ◌-◌, ◌^◌, ◌<◌, ◌≤◌, refl, ap, ◌∙◌, subst, ⊎_elim, arith}
 use Rattle.std.specs.Prelude.{Bool, true, false, cond, ltb}
 use Rattle.std.proofs.lemmas.Bool.{ltb-true, ltb-false, cases_lt}
-use Rattle.std.proofs.Math.Nat.{pow-zero, pow-le-pow_right}
+use Rattle.std.proofs.Math.Nat.{pow-zero, one-le-pow, pow-le-pow_right}
+use Rattle.std.proofs.Math.Pow.{pow_mono}
 use Rattle.doubling_schedule.proofs.SettleLemmas.{below_power}
 use Rattle.leak_bound.specs.Digits.{digits_from, digits, HasDigits}
 
@@ -86,3 +87,13 @@ digits_is t h = go (digits t) refl
 
 pub has_digits : (t : ℕ) → 0 < t → (d : ℕ) × (digits t ≡ suc d) × HasDigits t d
 has_digits t h = let r = digits_is t h in (r.0, r.1, record { from = r.3; below = r.2 })
+
+-- a number with as great a power of two has more binary digits
+pub power_digits : (m c : ℕ) → 2 ^ m ≤ c → m < digits c
+power_digits m zero h = absurd (omega (arith, h, one-le-pow m 2 (omega arith)))
+power_digits m (suc c) h =
+    let d = digits_is (suc c) (omega arith) in
+    ⊎_elim
+    (λ (lt : d.0 < m). let up : suc d.0 ≤ m = omega arith in let more : 2 ^ suc d.0 ≤ 2 ^ m = pow_mono up in absurd (omega (arith, more, h, d.2)))
+    (λ (le : m ≤ d.0). omega (arith, d.1))
+    (cases_lt d.0 m)

@@ -1,3 +1,4 @@
+pub mod Choose
 pub mod Counting
 pub mod Few
 pub mod Bound

@@ -1,41 +1,59 @@
--- What a choice of relevant marks, and a list of levels, have to do with a program.
-use Rattle.std.proofs.Common.{◌≡◌, ℕ, zero, suc, ◌+◌, ◌<◌, ◌≤◌, List, [], ◌∷◌, ◌++◌, length, get_or, refl, sym, ap, ◌∙◌, subst, ◌⊎◌, inl, inr, arith}
+-- What a choice of relevant marks, and one of levels, have to do with a program.
+use Rattle.std.proofs.Common.{◌≡◌, ℕ, ◌+◌, List, [], ◌∷◌, ◌++◌, length, get_or, refl, sym, ap, ◌∙◌, subst, arith}
 use Rattle.std.proofs.Common.{append_assoc, length-append}
-use Rattle.std.specs.Prelude.{Bool, true, false, cond, not, ◌&&◌}
+use Rattle.std.specs.Prelude.{Bool, true, false, ltb, not, ◌&&◌, ◌||◌}
 use Rattle.std.proofs.Math.Seq.{get_or-append_seam}
-use Rattle.std.proofs.lemmas.Bool.{both_ways, cases_lt}
+use Rattle.std.proofs.lemmas.Bool.{lt-ltb}
 use Rattle.mit_syntax.specs.Todo.{Marked, Done, Skip, Assign, Put, Sleep, If, While, Mitigate}
 use Rattle.mit_syntax.specs.Plan.{mitigates}
 use Rattle.mit_syntax.specs.Valid.{AreNumbered}
 use Rattle.label_lattice.specs.Lattice.{Lattice}
-use Rattle.label_lattice.specs.Order.{count_not_below}
 use Rattle.timing_types.specs.Typing.{label_of}
-use Rattle.leak_bound.specs.Records.{IsIn}
 use Rattle.leak_bound.specs.Relevant.{relevances, is_relevant, LevelsBelow, LevelsAre}
 
--- rel tells of each mark in the list, at pc, whether its mitigate's pc is low and its level is not
-abbrev pub Tells : Lattice → (ℕ → ℕ) → ℕ → (ℕ → Bool) → ℕ → Marked → Type 0
-Tells lat g o rel pc Done = Unit {0}
-Tells lat g o rel pc (Skip m r) = Tells lat g o rel pc r
-Tells lat g o rel pc (Assign m x e r) = Tells lat g o rel pc r
-Tells lat g o rel pc (Put m f n i e r) = Tells lat g o rel pc r
-Tells lat g o rel pc (Sleep m e r) = Tells lat g o rel pc r
-Tells lat g o rel pc (If m e a b r) =
-    Tells lat g o rel (lat.join pc (label_of lat g e)) a × Tells lat g o rel (lat.join pc (label_of lat g e)) b × Tells lat g o rel pc r
-Tells lat g o rel pc (While m e c r) = Tells lat g o rel (lat.join pc (label_of lat g e)) c × Tells lat g o rel pc r
-Tells lat g o rel pc (Mitigate m k l e c r) =
-    (rel k ≡ (lat.flows pc o && not (lat.flows l o))) × Tells lat g o rel pc c × Tells lat g o rel pc r
+-- rel tells of each mark in the list, at pc, whether its mitigate's level is picked and not low, and its pc low
+abbrev pub TellsOf : Lattice → (ℕ → ℕ) → ℕ → (ℕ → Bool) → (ℕ → Bool) → ℕ → Marked → Type 0
+TellsOf lat g o pick rel pc Done = Unit {0}
+TellsOf lat g o pick rel pc (Skip m r) = TellsOf lat g o pick rel pc r
+TellsOf lat g o pick rel pc (Assign m x e r) = TellsOf lat g o pick rel pc r
+TellsOf lat g o pick rel pc (Put m f n i e r) = TellsOf lat g o pick rel pc r
+TellsOf lat g o pick rel pc (Sleep m e r) = TellsOf lat g o pick rel pc r
+TellsOf lat g o pick rel pc (If m e a b r) =
+    TellsOf lat g o pick rel (lat.join pc (label_of lat g e)) a × TellsOf lat g o pick rel (lat.join pc (label_of lat g e)) b × TellsOf lat g o pick rel pc r
+TellsOf lat g o pick rel pc (While m e c r) = TellsOf lat g o pick rel (lat.join pc (label_of lat g e)) c × TellsOf lat g o pick rel pc r
+TellsOf lat g o pick rel pc (Mitigate m k l e c r) =
+    (rel k ≡ (pick l && (lat.flows pc o && not (lat.flows l o)))) × TellsOf lat g o pick rel pc c × TellsOf lat g o pick rel pc r
 
--- each level that is not low is among the labels
-abbrev pub HasLevels : Lattice → ℕ → List ℕ → Marked → Type 0
-HasLevels lat o ls Done = Unit {0}
-HasLevels lat o ls (Skip m r) = HasLevels lat o ls r
-HasLevels lat o ls (Assign m x e r) = HasLevels lat o ls r
-HasLevels lat o ls (Put m f n i e r) = HasLevels lat o ls r
-HasLevels lat o ls (Sleep m e r) = HasLevels lat o ls r
-HasLevels lat o ls (If m e a b r) = HasLevels lat o ls a × HasLevels lat o ls b × HasLevels lat o ls r
-HasLevels lat o ls (While m e c r) = HasLevels lat o ls c × HasLevels lat o ls r
-HasLevels lat o ls (Mitigate m k l e c r) = (lat.flows l o ≡ false → IsIn l ls) × HasLevels lat o ls c × HasLevels lat o ls r
+-- so it tells of all levels
+abbrev pub Tells : Lattice → (ℕ → ℕ) → ℕ → (ℕ → Bool) → ℕ → Marked → Type 0
+Tells lat g o rel pc p = TellsOf lat g o (λ l. true) rel pc p
+
+pub swapped : (a b : Bool) → (a && b) ≡ (b && a)
+swapped true true = refl
+swapped true false = refl
+swapped false true = refl
+swapped false false = refl
+
+-- what tells of all levels, and a choice of levels
+pub tells_both : (lat : Lattice) (g : ℕ → ℕ) (o : ℕ) (pick rel : ℕ → Bool) (ls : ℕ → ℕ) (pc : ℕ) (p : Marked) → Tells lat g o rel pc p → LevelsAre ls p
+    → TellsOf lat g o pick (λ k. rel k && pick (ls k)) pc p
+tells_both lat g o pick rel ls pc Done t h = tt
+tells_both lat g o pick rel ls pc (Skip m r) t h = tells_both lat g o pick rel ls pc r t h
+tells_both lat g o pick rel ls pc (Assign m x e r) t h = tells_both lat g o pick rel ls pc r t h
+tells_both lat g o pick rel ls pc (Put m f n i e r) t h = tells_both lat g o pick rel ls pc r t h
+tells_both lat g o pick rel ls pc (Sleep m e r) t h = tells_both lat g o pick rel ls pc r t h
+tells_both lat g o pick rel ls pc (If m e a b r) t h =
+    let inner = lat.join pc (label_of lat g e) in
+    (tells_both lat g o pick rel ls inner a t.0 h.0, tells_both lat g o pick rel ls inner b t.1 h.1, tells_both lat g o pick rel ls pc r t.2 h.2)
+tells_both lat g o pick rel ls pc (While m e c r) t h =
+    let inner = lat.join pc (label_of lat g e) in
+    (tells_both lat g o pick rel ls inner c t.0 h.0, tells_both lat g o pick rel ls pc r t.1 h.1)
+tells_both lat g o pick rel ls pc (Mitigate m k l e c r) t h = (
+  ap (λ b. b && pick (ls k)) t.0 ∙ swapped (lat.flows pc o && not (lat.flows l o)) (pick (ls k))
+      ∙ ap (λ z. pick z && (lat.flows pc o && not (lat.flows l o))) (sym h.0),
+  tells_both lat g o pick rel ls pc c t.1 h.1,
+  tells_both lat g o pick rel ls pc r t.2 h.2,
+)
 
 length-relevances : (lat : Lattice) (g ls : ℕ → ℕ) (o pc : ℕ) (p : Marked) → length (relevances lat g ls o pc p) ≡ mitigates p
 length-relevances lat g ls o pc Done = refl
@@ -124,36 +142,26 @@ pub tells_relevant : (lat : Lattice) (g ls : ℕ → ℕ) (o : ℕ) (p : Marked)
     → Tells lat g o (is_relevant lat g ls o p) lat.bottom p
 tells_relevant lat g ls o p h v = tells_at lat g ls o (relevances lat g ls o lat.bottom p) p lat.bottom 0 (whole [] (relevances lat g ls o lat.bottom p)) h v
 
--- the labels below n that do not flow to the observer
-abbrev pub others : Lattice → ℕ → ℕ → List ℕ
-others lat o zero = []
-others lat o (suc n) = cond (lat.flows n o) (others lat o n) (n ∷ others lat o n)
+-- the levels that no relevant mitigate has: those that flow to the observer, and those that are not below the number of labels
+abbrev pub beyond : Lattice → ℕ → ℕ → ℕ → Bool
+beyond lat o n l = not (ltb l n) || lat.flows l o
 
-pub length-others : (lat : Lattice) (o n : ℕ) → length (others lat o n) ≡ count_not_below lat o n
-length-others lat o zero = refl
-length-others lat o (suc n) = go (lat.flows n o) (length-others lat o n)
+pub tells_beyond : (lat : Lattice) (g : ℕ → ℕ) (o n pc : ℕ) (p : Marked) → LevelsBelow n p → TellsOf lat g o (beyond lat o n) (λ k. false) pc p
+tells_beyond lat g o n pc Done h = tt
+tells_beyond lat g o n pc (Skip m r) h = tells_beyond lat g o n pc r h
+tells_beyond lat g o n pc (Assign m x e r) h = tells_beyond lat g o n pc r h
+tells_beyond lat g o n pc (Put m f k i e r) h = tells_beyond lat g o n pc r h
+tells_beyond lat g o n pc (Sleep m e r) h = tells_beyond lat g o n pc r h
+tells_beyond lat g o n pc (If m e a b r) h = (tells_beyond lat g o n _ a h.0, tells_beyond lat g o n _ b h.1, tells_beyond lat g o n pc r h.2)
+tells_beyond lat g o n pc (While m e c r) h = (tells_beyond lat g o n _ c h.0, tells_beyond lat g o n pc r h.1)
+tells_beyond lat g o n pc (Mitigate m k l e c r) h = (
+  neither (lat.flows pc o) (lat.flows l o) ∙ ap (λ b. (not b || lat.flows l o) && (lat.flows pc o && not (lat.flows l o))) (sym (lt-ltb l n h.0)),
+  tells_beyond lat g o n pc c h.1,
+  tells_beyond lat g o n pc r h.2,
+)
   where
-    go : (b : Bool) → length (others lat o n) ≡ count_not_below lat o n
-        → length (cond b (others lat o n) (n ∷ others lat o n)) ≡ count_not_below lat o n + cond b 0 1
-    go true e = omega (arith, e)
-    go false e = omega (arith, e)
-
-others_has : (lat : Lattice) (o n l : ℕ) → l < n → lat.flows l o ≡ false → IsIn l (others lat o n)
-others_has lat o zero l h f = absurd (omega arith)
-others_has lat o (suc n) l h f = go (lat.flows n o) refl (λ lt. others_has lat o n l lt f) (cases_lt l n)
-  where
-    go : (b : Bool) → lat.flows n o ≡ b → (l < n → IsIn l (others lat o n)) → (l < n) ⊎ (n ≤ l) → IsIn l (cond b (others lat o n) (n ∷ others lat o n))
-    go true e rec (inl lt) = rec lt
-    go true e rec (inr le) = let same : l ≡ n = omega arith in absurd (both_ways (lat.flows l o) f (ap (λ z. lat.flows z o) same ∙ e))
-    go false e rec (inl lt) = inr (rec lt)
-    go false e rec (inr le) = inl (omega arith)
-
-pub has_levels : (lat : Lattice) (o n : ℕ) (p : Marked) → LevelsBelow n p → HasLevels lat o (others lat o n) p
-has_levels lat o n Done h = tt
-has_levels lat o n (Skip m r) h = has_levels lat o n r h
-has_levels lat o n (Assign m x e r) h = has_levels lat o n r h
-has_levels lat o n (Put m f k i e r) h = has_levels lat o n r h
-has_levels lat o n (Sleep m e r) h = has_levels lat o n r h
-has_levels lat o n (If m e a b r) h = (has_levels lat o n a h.0, has_levels lat o n b h.1, has_levels lat o n r h.2)
-has_levels lat o n (While m e c r) h = (has_levels lat o n c h.0, has_levels lat o n r h.1)
-has_levels lat o n (Mitigate m k l e c r) h = (λ f. others_has lat o n l h.0 f, has_levels lat o n c h.1, has_levels lat o n r h.2)
+    neither : (a b : Bool) → false ≡ ((not true || b) && (a && not b))
+    neither true true = refl
+    neither true false = refl
+    neither false true = refl
+    neither false false = refl

@@ -1,11 +1,11 @@
--- The run of a program to T: a derivation from its start, which is cut at T or complete.
-use Rattle.std.proofs.Common.{◌≡◌, ℕ, zero, suc, ◌+◌, ◌≤◌, List, [], refl, sym, ap, ◌∙◌, subst, arith, zero-add}
-use Rattle.std.specs.Prelude.{true}
+-- The run of a program to T: a derivation from its start, which is cut at T or complete, and the cycle at which it ends.
+use Rattle.std.proofs.Common.{◌≡◌, ℕ, zero, suc, ◌+◌, ◌<◌, ◌≤◌, List, [], refl, sym, ap, ◌∙◌, subst, ⊎_elim, arith, zero-add}
+use Rattle.std.specs.Prelude.{true, false}
 use Rattle.std.proofs.lemmas.Bool.{both_ways}
-use Rattle.mit_syntax.specs.Todo.{Marked}
+use Rattle.mit_syntax.specs.Todo.{Marks, Marked}
 use Rattle.label_lattice.specs.Lattice.{Lattice}
 use Rattle.env_contract.specs.Env.{Env}
-use Rattle.label_code.specs.Machine.{Core, Machine, at, obey, step, steps, start}
+use Rattle.label_code.specs.Machine.{Core, Machine, at, fetched, obey, step, steps, start}
 use Rattle.label_code.specs.declared.code.Instr.{Instr}
 use Rattle.code_lower.specs.Layout.{size, IsImage}
 use Rattle.label_code.specs.Run.{Start, run_from}
@@ -27,22 +27,34 @@ module _ {E : Type 0} (v : Env E) (lat : Lattice) (g : ℕ → ℕ) (image : Lis
     pub in_time : (run_from v image t s).halted ≡ true → after.clock ≤ t
     pub none_open : (run_from v image t s).halted ≡ true → (run_from v image t s).opened ≡ []
 
-  -- below the program's code nothing is logged, no clock turns back and nothing is opened
-  record Below (s : Core E) (y : Machine E) : Type 0 where
-    log : y.core.log ≡ s.log
-    clock : s.clock ≤ y.core.clock
-    opened : y.opened ≡ []
+  abbrev pub bottoms : Marks
+  bottoms = record { er = lat.bottom; ew = lat.bottom }
 
-  below : (k : ℕ) (s : Core E) → Below s (steps v image k (at (size p) [] [] s))
-  below zero s = record { log = refl; clock = omega arith; opened = refl }
-  below (suc k) s =
-      let one = ap (λ i. obey v i (at (size p) [] [] s)) code.1 in
-      let halts = stays v image k (step v image (at (size p) [] [] s)) (ap (λ x. x.halted) one) ∙ one in
-      let c = ap (λ x. x.core.clock) halts in
-      record { log = ap (λ x. x.core.log) halts; clock = omega arith; opened = ap (λ x. x.opened) halts }
+  -- past the HALT
+  abbrev pub past_halt : Core E → Core E
+  past_halt s = fetched v bottoms (size p) s
 
-  pub whole : (s : Start E) → Whole s
-  whole s = from (taken_apart v image lat g t y sane r.over p 0 code.0 [] [] r.count (first_core s) r.is)
+  -- the run to T, which has halted exactly if the HALT ends by T, and then at its cycle
+  pub record ToEnd (s : Start E) : Type 0 where
+    pub whole : Whole s
+    pub halts : (past_halt whole.after).clock ≤ t → (run_from v image t s).halted ≡ true
+    pub by : (run_from v image t s).halted ≡ true → (past_halt whole.after).clock ≤ t
+    pub at_core : (run_from v image t s).halted ≡ true → (run_from v image t s).core ≡ past_halt whole.after
+
+  -- the machine after the program's code, and after its HALT
+  abbrev before : Core E → Machine E
+  before s = at (size p) [] [] s
+
+  halted : Core E → Machine E
+  halted s = record { place = size p; operands = []; opened = []; core = past_halt s; halted = true }
+
+  halt_is : (s : Core E) → step v image (before s) ≡ halted s
+  unfolding halted
+  halt_is s = ap (λ i. obey v i (before s)) code.1
+
+  pub to_end : (s : Start E) → ToEnd s
+  unfolding halted
+  to_end s = from (taken_apart v image lat g t y sane r.over p 0 code.0 [] [] r.count (first_core s) r.is)
     where
       x0 : Machine E
       x0 = start s.memory s.env
@@ -59,28 +71,63 @@ module _ {E : Type 0} (v : Env E) (lat : Lattice) (g : ℕ → ℕ) (image : Lis
       stamped : y.core.log ≡ upto t y.core.log
       stamped = subst (λ z. z.core.log ≡ upto t z.core.log) r.is (sym (steps_in v image t r.count x0 tt refl (subst (λ z. z.core.clock ≤ t) (sym r.is) r.by)))
 
-      from : Part v image lat g t y sane r.over p 0 [] [] r.count (first_core s) → Whole s
+      from : Part v image lat g t y sane r.over p 0 [] [] r.count (first_core s) → ToEnd s
       from q = go q.rest
         where
-          go : Onward v image lat g t y sane r.over (suc r.count) (at (0 + size p) [] [] q.after) → Whole s
-          go (on left l e) =
-              let e1 = sym (ap (λ a. steps v image left (at a [] [] q.after)) (zero-add (size p))) ∙ e in
-              let b = below left q.after in
-              let c = ap (λ z. z.core.clock) e1 in
-              let bc = b.clock in
+          after : Core E
+          after = q.after
+
+          ends : (left : ℕ) → steps v image left (before after) ≡ y → ToEnd s
+          ends zero e =
+              let is : before after ≡ y = e in
+              let goes : y.halted ≡ false = ap (λ z. z.halted) (sym is) in
+              let next : (step v image y).core.clock ≡ (past_halt after).clock =
+              ap (λ z. (step v image z).core.clock) (sym is) ∙ ap (λ z. z.core.clock) (halt_is after) in
+              record {
+                whole = record {
+                  after = after;
+                  run = q.run;
+                  log = stamped ∙ ap (λ z. upto t z.core.log) (sym is);
+                  in_time =
+                      λ h. absurd (both_ways y.halted goes h);
+                  none_open = λ h. absurd (both_ways y.halted goes h);
+                };
+                halts = λ h. ⊎_elim (λ (f : y.halted ≡ true). f) (λ (m : y.halted ≡ false × (t < (step v image y).core.clock)). let late = m.1 in
+                    absurd (omega arith)) r.over;
+                by = λ h. absurd (both_ways y.halted goes h);
+                at_core = λ h. absurd (both_ways y.halted goes h);
+              }
+          ends (suc left) e =
+              let is : halted after ≡ y = sym (stays v image left (step v image (before after)) (ap (λ z. z.halted) (halt_is after)) ∙ halt_is after) ∙ e in
+              let clock : (past_halt after).clock ≡ y.core.clock = ap (λ z. z.core.clock) is in
               let by = r.by in
               record {
-                after = q.after;
-                run = q.run;
-                log = stamped ∙ ap (upto t) (sym (ap (λ z. z.core.log) e1) ∙ b.log);
-                in_time = λ h. omega arith;
-                none_open = λ h. sym (ap (λ z. z.opened) e1) ∙ b.opened;
+                whole = record {
+                  after = after;
+                  run = q.run;
+                  log = stamped ∙ ap (λ z. upto t z.core.log) (sym is);
+                  in_time = λ h. omega arith;
+                  none_open =
+                      λ h. sym (ap (λ z. z.opened) is);
+                };
+                halts = λ h. sym (ap (λ z. z.halted) is);
+                by = λ h. omega arith;
+                at_core = λ h. sym (ap (λ z. z.core) is);
               }
-          go (cut i l e) = record {
-            after = q.after;
-            run = q.run;
-            log = stamped ∙ sym e;
-            in_time = λ h. absurd (both_ways y.halted i h);
-            none_open =
-                λ h. absurd (both_ways y.halted i h);
-          }
+
+          go : Onward v image lat g t y sane r.over (suc r.count) (at (0 + size p) [] [] q.after) → ToEnd s
+          go (on left l e) = ends left (sym (ap (λ a. steps v image left (at a [] [] after)) (zero-add (size p))) ∙ e)
+          go (cut i l e) =
+              record {
+                whole = record {
+                  after = after;
+                  run = q.run;
+                  log = stamped ∙ sym e;
+                  in_time = λ h. absurd (both_ways y.halted i h);
+                  none_open =
+                      λ h. absurd (both_ways y.halted i h);
+                };
+                halts = λ h. absurd (omega arith);
+                by = λ h. absurd (both_ways y.halted i h);
+                at_core = λ h. absurd (both_ways y.halted i h);
+              }

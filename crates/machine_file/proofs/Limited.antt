@@ -29,12 +29,12 @@ three false w y f g h e = absurd cc
 good : (p : Place) (o : Option Bank) → bank_fault p o ≡ None → IfSome o IsGoodBank
 good p None e = tt
 good p (Some b) e =
-    let t = three (ltb 0 b.sets && leb b.sets 64) (ltb 0 b.ways && leb b.ways 8) (ltb 0 b.bytes) _ _ _ e in
-    let s = and_parts (ltb 0 b.sets) (leb b.sets 64) t.0 in
+    let t = three (ltb 0 b.sets && leb b.sets 4096) (ltb 0 b.ways && leb b.ways 8) (ltb 0 b.bytes) _ _ _ e in
+    let s = and_parts (ltb 0 b.sets) (leb b.sets 4096) t.0 in
     let w = and_parts (ltb 0 b.ways) (leb b.ways 8) t.1 in
     record {
       bank = record { some_set = ltb-true 0 b.sets s.0; some_way = ltb-true 0 b.ways w.0; some_byte = ltb-true 0 b.bytes t.2 };
-      small = record { few_sets = leb-true b.sets 64 s.1; few_ways = leb-true b.ways 8 w.1 };
+      small = record { few_sets = leb-true b.sets 4096 s.1; few_ways = leb-true b.ways 8 w.1 };
     }
 
 below : (most : ℕ) (b : Bool) (f : MachineFault) → leb most 1000 ≡ b → (if b then None else Some f) ≡ None → most ≤ 1000

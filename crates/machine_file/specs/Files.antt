@@ -9,16 +9,21 @@ use Rattle.env_contract.specs.declared.place.Place.TheVariants as place
 use Rattle.start_file.specs.Tables.{keys_pass}
 use Rattle.start_file.specs.Touches.{address_of}
 use Rattle.start_file.specs.Starts.{IsDocument}
+use Rattle.part_cache.specs.declared.replacement.Replacement.{Replacement}
+use Rattle.part_cache.specs.declared.replacement.Replacement.TheVariants.{LeastRecent, FirstCome}
 use Rattle.part_tlb.specs.declared.bank.Bank.{Bank}
 use Rattle.part_tlb.specs.declared.bank.Hardware.{Hardware}
 use Rattle.hardware.specs.Limits.{dearest}
 use Rattle.part_tlb.specs.declared.bank.Sharing.{Sharing}
 use Rattle.part_tlb.specs.declared.bank.Sharing.TheVariants.{Partitioned, Shared}
 use Rattle.machine_file.specs.declared.fault.MachineFault.{MachineFault}
-use Rattle.machine_file.specs.declared.fault.MachineFault.TheVariants.{NotToml, Version, UnknownKey, Sharing as BadSharing, BadBank, Sets, Ways, Bytes, Costs}
+use Rattle.machine_file.specs.declared.fault.MachineFault.TheVariants.{NotToml, Version, UnknownKey, Sharing as BadSharing, BadBank}
+use Rattle.machine_file.specs.declared.fault.MachineFault.TheVariants.{Replacement as BadReplacement, Sets, Ways, Bytes, Costs}
 
 abbrev pub is_bank_key : List ℕ → Bool
-is_bank_key w = bytes_eq w (codes "sets") || bytes_eq w (codes "ways") || bytes_eq w (codes "bytes") || bytes_eq w (codes "hit") || bytes_eq w (codes "miss")
+is_bank_key w =
+    bytes_eq w (codes "sets") || bytes_eq w (codes "ways") || bytes_eq w (codes "bytes") || bytes_eq w (codes "hit") || bytes_eq w (codes "miss")
+    || bytes_eq w (codes "replace")
 
 abbrev pub is_machine_key : List ℕ → Bool
 is_machine_key w =
@@ -26,10 +31,10 @@ is_machine_key w =
     || bytes_eq w (codes "data") || bytes_eq w (codes "second")
 
 abbrev pub bank_from : Option ℕ → Option ℕ → Option ℕ → Option ℕ → Option ℕ → Option Bank
-bank_from (Some s) (Some w) (Some y) (Some h) (Some m) = Some (record { sets = s; ways = w; bytes = y; hit = h; miss = m })
+bank_from (Some s) (Some w) (Some y) (Some h) (Some m) = Some (record { sets = s; ways = w; bytes = y; hit = h; miss = m; replacement = LeastRecent })
 bank_from _ _ _ _ _ = None
 
--- a table with exactly the five keys, each an integer from 0 to 4294967295
+-- a table of the five numbers, each an integer from 0 to 4294967295, and at most the key of the rule beside them
 abbrev pub bank_in : Members → Option Bank
 bank_in ms =
     if keys_pass is_bank_key ms
@@ -37,14 +42,25 @@ bank_in ms =
     (address_of (get_member (codes "hit") ms)) (address_of (get_member (codes "miss") ms))
     else None
 
-abbrev pub as_bank : Place → Option Bank → Result (Option Bank) MachineFault
-as_bank p None = Err (BadBank p)
-as_bank p (Some b) = Ok (Some b)
+abbrev pub replacement_named : List ℕ → Option Replacement
+replacement_named w = if bytes_eq w (codes "lru") then Some LeastRecent else if bytes_eq w (codes "fifo") then Some FirstCome else None
+
+-- the least recently used goes first where no rule is named
+abbrev pub replacement_of : Option Data → Option Replacement
+replacement_of None = Some LeastRecent
+replacement_of (Some (string w)) = replacement_named w
+replacement_of (Some _) = None
+
+-- a bank of these numbers with the rule
+abbrev pub as_bank : Place → Option Bank → Option Replacement → Result (Option Bank) MachineFault
+as_bank p None r = Err (BadBank p)
+as_bank p (Some b) None = Err (BadReplacement p)
+as_bank p (Some b) (Some r) = Ok (Some (record b { replacement = r }))
 
 -- no bank where nothing stands
 abbrev pub bank_of : Place → Option Data → Result (Option Bank) MachineFault
 bank_of p None = Ok None
-bank_of p (Some (table ms)) = as_bank p (bank_in ms)
+bank_of p (Some (table ms)) = as_bank p (bank_in ms) (replacement_of (get_member (codes "replace") ms))
 bank_of p (Some _) = Err (BadBank p)
 
 abbrev pub sharing_named : List ℕ → Option Sharing
@@ -83,11 +99,11 @@ machine_in ms =
 
 -- ---- limits
 
--- 1 to 64 sets of 1 to 8 ways, and at least a byte for a tag
+-- 1 to 4,096 sets of 1 to 8 ways, and at least a byte for a tag
 abbrev pub bank_fault : Place → Option Bank → Option MachineFault
 bank_fault p None = None
 bank_fault p (Some b) =
-    if ltb 0 b.sets && leb b.sets 64
+    if ltb 0 b.sets && leb b.sets 4096
     then (if ltb 0 b.ways && leb b.ways 8 then (if ltb 0 b.bytes then None else Some (Bytes p)) else Some (Ways p))
     else Some (Sets p)
 

@@ -15,7 +15,9 @@ pub enum MachineFault {
     Sharing,
     /// What stands at this place is no bank: no table, with another key, or without one of the five numbers.
     BadBank(Place),
-    /// The bank at this place has no set, or more than 64.
+    /// The rule of replacement of the bank at this place is neither `lru` nor `fifo`.
+    Replacement(Place),
+    /// The bank at this place has no set, or more than 4,096.
     Sets(Place),
     /// The bank at this place has no way, or more than 8.
     Ways(Place),

@@ -9,12 +9,14 @@ ghost use Rattle.start_file.specs.Tables.{data_of};
 ghost use Rattle.start_file.specs.Touches.{address_of};
 ghost use Rattle.hardware.specs.Limits.{IsWithin};
 ghost use Rattle.start_file.specs.Starts.{IsDocument};
-ghost use Rattle.machine_file.specs.Files.{is_bank_key, is_machine_key, bank_in, bank_of, sharing_named, sharing_of, is_first};
+ghost use Rattle.machine_file.specs.Files.{is_bank_key, is_machine_key, bank_in, as_bank, bank_of, sharing_named, sharing_of, is_first};
+ghost use Rattle.machine_file.specs.Files.{replacement_named, replacement_of};
 ghost use Rattle.machine_file.specs.Files.{with_banks, machine_in, Describes, Refused};
 
 use crate::fault::MachineFault;
 use crate::limits::limit_fault;
 use env_contract::place::Place;
+use part_cache::replacement::Replacement;
 use part_tlb::bank::{Bank, Hardware, Sharing};
 use std::alloc::Global;
 use toml::{Table, Value};
@@ -29,7 +31,12 @@ fn at<'a>(table: &'a Table, key: &str) -> Option<&'a Value>
 fn is_bank_key(key: &str) -> bool
     ensures { result ≡ is_bank_key key.now }
 {
-    key == "sets" || key == "ways" || key == "bytes" || key == "hit" || key == "miss"
+    key == "sets"
+        || key == "ways"
+        || key == "bytes"
+        || key == "hit"
+        || key == "miss"
+        || key == "replace"
 }
 
 fn has_bank_keys(table: &Table) -> bool
@@ -76,7 +83,52 @@ fn bank_in(table: &Table) -> Option<Bank>
         bytes: number(at(table, "bytes"))?,
         hit: number(at(table, "hit"))?,
         miss: number(at(table, "miss"))?,
+        replacement: Replacement::LeastRecent,
     })
+}
+
+fn replacement_named(word: &str) -> Option<Replacement>
+    ensures { result ≡ replacement_named word.now }
+{
+    if word == "lru" {
+        Some(Replacement::LeastRecent)
+    } else if word == "fifo" {
+        Some(Replacement::FirstCome)
+    } else {
+        None
+    }
+}
+
+fn replacement(value: Option<&Value>) -> Option<Replacement>
+    ensures { result ≡ replacement_of (data_of value.entry) }
+{
+    let Some(value) = value else {
+        return Some(Replacement::LeastRecent);
+    };
+    match value {
+        Value::String(word) => replacement_named(word.as_str()),
+        _ => None,
+    }
+}
+
+// The bank of the numbers with the rule, or what is wrong at the place.
+fn as_bank(
+    place: Place,
+    bank: Option<Bank>,
+    rule: Option<Replacement>,
+) -> Result<Option<Bank>, MachineFault>
+    ensures { result ≡ as_bank place bank rule }
+{
+    let Some(bank) = bank else {
+        return Err(MachineFault::BadBank(place));
+    };
+    let Some(replacement) = rule else {
+        return Err(MachineFault::Replacement(place));
+    };
+    Ok(Some(Bank {
+        replacement,
+        ..bank
+    }))
 }
 
 fn bank(place: Place, value: Option<&Value>) -> Result<Option<Bank>, MachineFault>
@@ -86,10 +138,11 @@ fn bank(place: Place, value: Option<&Value>) -> Result<Option<Bank>, MachineFaul
         return Ok(None);
     };
     match value {
-        Value::Table(table) => match bank_in(table) {
-            Some(bank) => Ok(Some(bank)),
-            None => Err(MachineFault::BadBank(place)),
-        },
+        Value::Table(table) => {
+            let numbers = bank_in(table);
+            let rule = replacement(at(table, "replace"));
+            as_bank(place, numbers, rule)
+        }
         _ => Err(MachineFault::BadBank(place)),
     }
 }

@@ -1,6 +1,7 @@
 use crate::fault::MachineFault;
 use crate::read::read_machine;
 use env_contract::place::Place;
+use part_cache::replacement::Replacement;
 use part_tlb::bank::{Bank, Sharing};
 
 const SHARED: &[u8] =
@@ -12,6 +13,7 @@ const BUFFER: Bank = Bank {
     bytes: 1024,
     hit: 0,
     miss: 20,
+    replacement: Replacement::LeastRecent,
 };
 
 #[test]
@@ -24,7 +26,7 @@ fn reads_a_machine(rt: HostRuntime) {
 
 #[test]
 fn refuses_what_is_none(rt: HostRuntime) {
-    let rows: [(&[u8], MachineFault); 8] = [
+    let rows: [(&[u8], MachineFault); 9] = [
         (b"version = ", MachineFault::NotToml),
         (b"sharing = \"shared\"", MachineFault::Version),
         (
@@ -38,6 +40,10 @@ fn refuses_what_is_none(rt: HostRuntime) {
             MachineFault::BadBank(Place::Data),
         ),
         (
+            b"version = 1\nsharing = \"shared\"\ncode = { sets = 8, ways = 9, bytes = 32, hit = 0, miss = 8, replace = \"FIFO\" }",
+            MachineFault::Replacement(Place::Code),
+        ),
+        (
             b"version = 1\nsharing = \"shared\"\ncode = { sets = 8, ways = 9, bytes = 32, hit = 0, miss = 8 }",
             MachineFault::Ways(Place::Code),
         ),
@@ -48,5 +54,23 @@ fn refuses_what_is_none(rt: HostRuntime) {
     ];
     for (text, fault) in rows {
         assert_eq!(rt; read_machine(rt.alloc(), text).err(), Some(fault));
+    }
+}
+
+#[test]
+fn reads_a_rule_of_replacement(rt: HostRuntime) {
+    let rows: [(&[u8], Replacement); 2] = [
+        (
+            b"version = 1\nsharing = \"shared\"\npage = { sets = 4096, ways = 4, bytes = 1, hit = 0, miss = 2, replace = \"fifo\" }",
+            Replacement::FirstCome,
+        ),
+        (
+            b"version = 1\nsharing = \"shared\"\npage = { sets = 4096, ways = 4, bytes = 1, hit = 0, miss = 2, replace = \"lru\" }",
+            Replacement::LeastRecent,
+        ),
+    ];
+    for (text, rule) in rows {
+        let read = read_machine(rt.alloc(), text).expect(&rt, "a machine");
+        assert_eq!(rt; read.buffer.map(|bank| bank.replacement), Some(rule));
     }
 }

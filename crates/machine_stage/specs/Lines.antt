@@ -4,8 +4,8 @@ use Rattle.env_contract.specs.declared.place.Place.{Place}
 use Rattle.part_tlb.specs.declared.bank.Sharing.{Sharing}
 use Rattle.part_tlb.specs.declared.bank.Sharing.TheVariants as sharing
 use Rattle.machine_file.specs.declared.fault.MachineFault.{MachineFault}
-use Rattle.machine_file.specs.declared.fault.MachineFault.TheVariants.{NotToml, Version, UnknownKey, Sharing as BadSharing, BadBank, Sets, Ways, Bytes}
-use Rattle.machine_file.specs.declared.fault.MachineFault.TheVariants.{Costs, Memory}
+use Rattle.machine_file.specs.declared.fault.MachineFault.TheVariants.{NotToml, Version, UnknownKey, Sharing as BadSharing, BadBank}
+use Rattle.machine_file.specs.declared.fault.MachineFault.TheVariants.{Replacement as BadReplacement, Sets, Ways, Bytes, Costs, Memory}
 use Rattle.tool_stages.specs.declared.envs.Environment.{Environment}
 use Rattle.tool_stages.specs.declared.envs.Environment.TheVariants.{Named, Described}
 use Rattle.tool_texts.specs.Texts.{memory_line}
@@ -21,6 +21,7 @@ machine_fault_line Version = codes "machine: version\n"
 machine_fault_line UnknownKey = codes "machine: unknown key\n"
 machine_fault_line BadSharing = codes "machine: sharing\n"
 machine_fault_line (BadBank p) = place_line p (codes "not a bank")
+machine_fault_line (BadReplacement p) = place_line p (codes "replace")
 machine_fault_line (Sets p) = place_line p (codes "sets")
 machine_fault_line (Ways p) = place_line p (codes "ways")
 machine_fault_line (Bytes p) = place_line p (codes "bytes")

@@ -70,6 +70,7 @@ pub fn machine_fault(fault: MachineFault) -> Line
         MachineFault::UnknownKey => words(b"machine: unknown key\n"),
         MachineFault::Sharing => words(b"machine: sharing\n"),
         MachineFault::BadBank(place) => at_place(place, b"not a bank"),
+        MachineFault::Replacement(place) => at_place(place, b"replace"),
         MachineFault::Sets(place) => at_place(place, b"sets"),
         MachineFault::Ways(place) => at_place(place, b"ways"),
         MachineFault::Bytes(place) => at_place(place, b"bytes"),

@@ -10,8 +10,7 @@ use Rattle.tool_stages.specs.Content.{Content}
 use Rattle.mit_tool.specs.Answers.{IsUsage}
 use Rattle.mit_tool.specs.Commands.{IsAnswer, Before}
 use Rattle.mit_tool.specs.Held.{EndsByHeld, told_all}
-use Rattle.mit_tool.specs.Ran.{HasRunSoundly}
-use Rattle.mit_tool.proofs.RanLemmas.{ends_ran}
+use Rattle.mit_tool.proofs.RanLemmas.{RanSoundly, ends_ran, runs_soundly}
 use Rattle.mit_call.specs.Called.{HasEnded}
 use Rattle.mit_call.proofs.Cut.{ends_kept, ends_broken}
 
@@ -63,8 +62,9 @@ pub ended : (content : Content) (Names : List ℕ → Type 0) (Risen Rises : Typ
     → Leads Risen Rises old taken new s t → HasEnded content Names Risen old taken words s → HasEnded content Names Rises old new words t
 ended content Names Risen Rises old taken new words s t l h = record {
   answered = if_some_map (command_of words) (λ a e. l.ends (Before content a) (IsAnswer Names content a) e) h.answered;
-  ran = if_some_map {P = λ a. EndsBy old taken (Before content a) (IsAnswer Names content a) s} {Q = HasRunSoundly content old new t} (command_of words)
-      (λ a e. ends_ran h.sound Names content old new (Before content a) t a (l.ends (Before content a) (IsAnswer Names content a) e)) h.answered;
+  ran = runs_soundly content old new t words
+      (if_some_map {P = λ a. EndsBy old taken (Before content a) (IsAnswer Names content a) s} {Q = RanSoundly content old new t} (command_of words)
+      (λ a e. ends_ran h.sound Names content old new (Before content a) t a (l.ends (Before content a) (IsAnswer Names content a) e)) h.answered);
   usage = λ none. l.ends Nothing IsUsage (h.usage none);
   sound = h.sound;
   accepted = λ p. h.accepted (past s t l.is p);

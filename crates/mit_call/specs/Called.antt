@@ -11,14 +11,14 @@ use Rattle.mit_tool.specs.Answers.{IsUsage}
 use Rattle.mit_tool.specs.Commands.{files_of, IsAnswer, Before, typed_content, HeldTypes, AreWithin}
 use Rattle.mit_tool.specs.Complete.{CanBeDone}
 use Rattle.mit_tool.specs.Held.{EndsByOne}
-use Rattle.mit_tool.specs.Ran.{HasRunSoundly}
+use Rattle.mit_tool.specs.Ran.{RunsSoundly}
 
 -- The clauses of `mitigate_main`, over all that was taken in the end. `Rises` tells the names whose counts of faults rose, and
 -- `Risen` that the sink's count did.
 pub record HasEnded (content : Content) (Rises : List ℕ → Type 0) (Risen : Type 0) (old new : Option (List ℕ)) (words : List (List ℕ))
     (s : Status) : Type 0 where
   pub answered : IfSome (command_of words) (λ a. EndsBy old new (Before content a) (IsAnswer Rises content a) s)
-  pub ran : IfSome (command_of words) (HasRunSoundly content old new s)
+  pub ran : RunsSoundly content old new words s
   pub usage : command_of words ≡ None → EndsBy old new Nothing IsUsage s
   pub sound : TypedAreSound
   pub accepted : IsTrue (is_past_typing s) → IfSome (command_of words) (λ a. IfSome (typed_content content a) IsAccepted)

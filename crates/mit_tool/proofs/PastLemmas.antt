@@ -13,7 +13,7 @@ use Rattle.tool_stages.specs.Stages.{Then, Reads, ProgramStops, Types, TypeStops
 use Rattle.tool_stages.specs.Accepted.{IsAccepted, IsRechecked, is_past_typing}
 use Rattle.tool_stages.specs.Begins.{Compiles, Prepares}
 use Rattle.tool_stages.specs.Content.{Content}
-use Rattle.tool_stages.proofs.SoundLemmas.{typed_made, least_made}
+use Rattle.tool_stages.proofs.SoundLemmas.{typed_made, text_spells, accepted}
 use Rattle.tool_stages.proofs.EarlyLemmas.{not_late, program_early, observer_early, type_early, certificate_early}
 
 -- what is so of each answer past the typing is so of a call that ended there
@@ -32,9 +32,6 @@ ended_past old new Before A P f status.Disagree h past = f status.Disagree h.0 p
 ended_past old new Before A P f status.Unfinished h past = f status.Unfinished h.0 past h.1
 ended_past old new Before A P f status.Memory h past = cc
 ended_past old new Before A P f status.Rejected h past = cc
-
-accepted : (c : Option (Option (List ℕ))) (p : Syntax) (q : LabelledProgram) → Reads c p → Types p q → IsAccepted c
-accepted c p q reads types = record { program = p; reads = reads; labelled = q; types = types; typed = least_made _ p q reads.spelled types }
 
 pub typed_past : (R : Type 0) (c : Option (Option (List ℕ))) (Next : Syntax → LabelledProgram → Status → List ℕ → Type 0) (s : Status) (t : List ℕ)
     → IsTrue (is_past_typing s)
@@ -67,7 +64,7 @@ rechecked_past R K c d Next s t past (inr (p, reads, inl x)) = absurd (not_late 
 rechecked_past R K c d Next s t past (inr (p, reads, inr (q, rechecks, n))) =
     record {
       program = p;
-      reads = reads;
+      spells = text_spells c p reads;
       labelled = q;
       rechecks = rechecks;
       typed = typed_made _ p q reads.spelled rechecks.holds.program rechecks.labels.keeps rechecks.typed;

@@ -13,7 +13,7 @@ ghost use Rattle.mit_tool.specs.Commands.{files_of, IsAnswer, Before, typed_cont
 ghost use Rattle.mit_tool.specs.Complete.{CanBeDone};
 ghost use Rattle.mit_tool.specs.Logged.{HasWritten, ArePieces};
 ghost use Rattle.mit_tool.specs.Held.{EndsByOne};
-ghost use Rattle.mit_tool.specs.Ran.{HasRunSoundly};
+ghost use Rattle.mit_tool.specs.Ran.{RunsSoundly};
 
 use crate::commands::audit::audit_text;
 use crate::commands::blackbox::blackbox_text;
@@ -198,7 +198,7 @@ pub fn mitigate_main<S: Shelf, W: Sink>(
     ensures answered { IfSome (command_of (map string_bytes words.now)) (λ a.
         EndsBy (W.taken out.old) (W.taken out.new) (Before (S.content shelf.old) a)
         (IsAnswer (λ name. Rose (S.faults shelf.old name) (S.faults shelf.new name)) (S.content shelf.old) a) result) }
-    ensures ran { IfSome (command_of (map string_bytes words.now)) (HasRunSoundly (S.content shelf.old) (W.taken out.old) (W.taken out.new) result) }
+    ensures ran { RunsSoundly (S.content shelf.old) (W.taken out.old) (W.taken out.new) (map string_bytes words.now) result }
     ensures usage { command_of (map string_bytes words.now) ≡ None
         → EndsBy (W.taken out.old) (W.taken out.new) Nothing IsUsage result }
     ensures sound { TypedAreSound }

@@ -15,14 +15,12 @@ use Rattle.code_lower.proofs.Timed.{timed_log, reached_log, tested_clock, tested
 use Rattle.leak_bound.specs.Relevant.{begun_count, ended_count, LevelsAre}
 use Rattle.leak_bound.proofs.Balance.{begun-append}
 use Rattle.leak_bound.proofs.Low.{record_of}
-use Rattle.leak_bound.proofs.Marks.{nought, tested_count, reached_count, written_count, closed_count}
+use Rattle.leak_bound.proofs.Marks.{nought, tested_count, reached_count, written_count, closed_count, low_count}
 use Rattle.leak_bound.proofs.Marks.{begun_count as begun_same}
 use Rattle.leak_bound.proofs.Record.{closed_grows, grows_run}
 use Rattle.leak_bound.proofs.Runs.{Job, Do, Runs, done, skip, assign, put, sleep, if_true, if_false, while_none, while_some, mitigate, last, again, late}
-use Rattle.leak_bound.proofs.Tells.{Tells}
-use Rattle.sharp_bound.proofs.Levels.{tells_both}
-use Rattle.sharp_bound.proofs.Picks.{low_count}
-use Rattle.sharp_bound.proofs.Rank.{picked, is_at}
+use Rattle.leak_bound.proofs.Tells.{Tells, tells_both}
+use Rattle.leak_bound.proofs.Counting.{picked, is_at}
 
 -- one event more
 one_begun : (rel : ℕ → Bool) (lim : ℕ) (es : List Event) (e : Event)

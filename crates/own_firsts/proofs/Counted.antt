@@ -7,16 +7,16 @@ use Rattle.std.proofs.Math.Nat.{le-max_left, le-max_right, max-le, mul-le-mul_le
 use Rattle.std.proofs.lemmas.Bool.{cases_eq, cases_lt, lt-ltb, le-ltb}
 use Rattle.std.proofs.lemmas.Nat.{le-div, mul-le, div-add-mod'}
 use Rattle.leak_bound.specs.Digits.{digits}
-use Rattle.sharp_count.specs.Count.{rising, sharp}
+use Rattle.leak_bound.specs.Rising.{rising, sharp}
 use Rattle.sharp_count.specs.Levels.{miss_counts}
 use Rattle.sharp_count.specs.Lists.{NeverFalling, IsAmong}
 use Rattle.sharp_count.specs.Ways.{IsChoice}
 use Rattle.sharp_count.proofs.Alike.{each-among, no_longer}
-use Rattle.sharp_count.proofs.Choose.{pascal, rising-none, rising-le}
+use Rattle.leak_bound.proofs.Choose.{pascal, rising-none, rising-le}
 use Rattle.sharp_count.proofs.Listing.{cons_all, among_left, among_right}
 use Rattle.sharp_count.proofs.Shares.{power_below}
 use Rattle.sharp_count.proofs.Ways.{Choice, pairs, length-pairs, among-pairs}
-use Rattle.sharp_bound.proofs.Final.{power_digits}
+use Rattle.leak_bound.proofs.Digits.{power_digits}
 use Rattle.own_firsts.specs.Ways.{cycles_from, cycles_by, IsOwnWay}
 use Rattle.own_firsts.specs.Count.{lists_below, own_by, own, OwnIsEnough, OwnExample}
 

@@ -20,8 +20,9 @@ use Rattle.sharp_bound.specs.End.{seen_to_end}
 use Rattle.sharp_bound.specs.Firsts.{notes_to}
 use Rattle.sharp_bound.specs.Shared.{StandApart}
 use Rattle.sharp_bound.proofs.Choices.{choice_of, is_choice}
-use Rattle.sharp_bound.proofs.Final.{rel, tells, found, record_at, Told, told_seen, told_to_end, few_by_choice}
-use Rattle.sharp_bound.proofs.Rank.{picked, is_at}
+use Rattle.leak_bound.proofs.Headline.{rel, tells, found, record_at, Told, told_seen}
+use Rattle.sharp_bound.proofs.Final.{told_to_end, few_by_choice}
+use Rattle.leak_bound.proofs.Counting.{picked, is_at}
 use Rattle.own_firsts.specs.Predicted.{PredictsOwn, PredictsOwnBy}
 use Rattle.own_firsts.specs.Ways.{IsOwnWay, AreOwnWays}
 use Rattle.own_firsts.specs.Own.{FewOwn, SharpOwn}

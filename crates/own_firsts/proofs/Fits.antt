@@ -27,7 +27,7 @@ use Rattle.leak_bound.proofs.Tells.{Tells}
 use Rattle.sharp_bound.specs.Firsts.{PredictsNext}
 use Rattle.sharp_bound.specs.Shared.{StandApart}
 use Rattle.sharp_bound.proofs.Firsts.{Bare, doubled, mono, noted_in, tested_tally, closed_tally}
-use Rattle.sharp_bound.proofs.Rank.{picked, is_at}
+use Rattle.leak_bound.proofs.Counting.{picked, is_at}
 use Rattle.sharp_bound.proofs.Shared.{none_record, no_own}
 use Rattle.own_firsts.specs.Predicted.{begun_of}
 use Rattle.own_firsts.proofs.Balance.{begun_at, grown, tested_begins, reached_begins, written_begins, begun_begins}

@@ -4,8 +4,8 @@ use Rattle.std.specs.Prelude.{cond, eqb, max}
 use Rattle.std.proofs.Math.Nat.{mul-le-mul_left, le-max_right}
 use Rattle.leak_bound.specs.Records.{Entry}
 use Rattle.leak_bound.specs.Digits.{digits}
-use Rattle.sharp_bound.proofs.Final.{power_digits}
-use Rattle.sharp_bound.proofs.Rank.{picked, is_at, Under}
+use Rattle.leak_bound.proofs.Digits.{power_digits}
+use Rattle.leak_bound.proofs.Counting.{picked, is_at, Under}
 
 -- after an entry of level x one more of that level has ended
 abbrev pub one_after : (ℕ → ℕ) → ℕ → ℕ → ℕ

@@ -1,7 +1,7 @@
 -- The count by own first predictions: level by level, how many lists of miss counts there are.
 use Rattle.std.specs.Prelude.{◌≡◌, ℕ, zero, suc, ◌+◌, ◌*◌, ◌<◌, ◌≤◌, List, [], length, ltb, cond, slice_index_or}
 use Rattle.leak_bound.specs.Digits.{digits}
-use Rattle.sharp_count.specs.Count.{sharp}
+use Rattle.leak_bound.specs.Rising.{sharp}
 use Rattle.sharp_count.specs.Levels.{miss_counts}
 use Rattle.own_firsts.specs.Ways.{AreOwnWays}
 

@@ -9,8 +9,11 @@ pub mod Meant
 pub mod Numerals
 pub mod Apart
 pub mod Saying
+pub mod TextWords
 pub mod Parted
 pub mod ReadExpression
 pub mod ReadCommands
 pub mod ReadHeader
 pub mod WholeText
+pub mod TreeGrammar
+pub mod GrammarTree

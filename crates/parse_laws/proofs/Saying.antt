@@ -24,14 +24,14 @@ told_word (sign s) = refl
 told_word (number n) = refl
 told_word (name w) = refl
 
-abbrev Said : Type 0
+abbrev pub Said : Type 0
 Said = TokenKind × List ℕ
 
-abbrev first : List Said → Said → Said
+abbrev pub first : List Said → Said → Said
 first [] d = d
 first (x ∷ xs) d = x
 
-abbrev others : List Said → List Said
+abbrev pub others : List Said → List Said
 others [] = []
 others (x ∷ xs) = xs
 

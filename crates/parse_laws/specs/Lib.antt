@@ -1,2 +1,4 @@
 pub mod Spelled
 pub mod ReadBack
+pub mod Grammar
+pub mod TextWords

@@ -3,7 +3,7 @@
 ghost use Rattle.std.specs.Prelude.{◌≡◌, ◌≢◌, ◌↔◌, ℕ, List, None};
 ghost use Rattle.mit_parser.specs.declared.fault.ParseFault.{ParseFault};
 ghost use Rattle.mit_parser.specs.declared.fault.ParseFault.TheVariants.{Memory};
-ghost use Rattle.mit_parser.specs.Words.{Told, told};
+ghost use Rattle.mit_parser.specs.Words.{Symbol, Told, told};
 ghost use Rattle.mit_parser.specs.Tree.{ProgramTree};
 ghost use Rattle.mit_parser.specs.Faults.{header_fault, body_fault};
 ghost use Rattle.mit_parser.specs.Named.{IsNamed};
@@ -16,7 +16,9 @@ ghost use Rattle.mit_syntax.specs.Program.{Syntax};
 ghost use Rattle.mit_syntax.specs.Valid.{IsValid};
 ghost use Rattle.mit_syntax.specs.Layout.{canonical};
 ghost use Rattle.parse_laws.specs.Spelled.{IsSpelled};
+ghost use Rattle.parse_laws.specs.Grammar.{symbols, IsSpelt};
 ghost use Rattle.parse_laws.specs.ReadBack.{ReadsBack, Same};
+ghost use Rattle.parse_laws.specs.TextWords.{AreWords};
 
 /// One tree at most spells the words.
 pub fn one_tree()
@@ -51,6 +53,18 @@ pub fn one_cut()
 /// Words are refused for one reason at most, want of memory aside.
 pub fn one_refusal()
     ensures { (words : List Told) (f g : ParseFault) → Refuses words f → Refuses words g → f ≢ Memory → g ≢ Memory → f ≡ g }
+{}
+
+/// The grammar, which tells of no position and of no tree: words are spelt by it exactly where they are a program, but for the
+/// positions of its commands.
+pub fn programs_are_spelt()
+    ensures { (words : List Told) (p : Syntax) → IsSpelt (symbols words) p ↔ ((q : Syntax) × IsProgram words q × Same q p) }
+{}
+
+/// The words of a text, which its pieces say, are what its tokens say.
+pub fn words_are_cut()
+    ensures { (text : List ℕ) (words : List Symbol)
+        → AreWords text words ↔ ((tokens : List Token) × AreTokens text tokens × (words ≡ symbols (told text tokens))) }
 {}
 
 /// Words are one program at most.

@@ -4,8 +4,9 @@ use Rattle.std.specs.Prelude.{replicate}
 use Rattle.std.proofs.lemmas.List.{get_or_past, length-replicate, get_or-replicate}
 use Rattle.std.proofs.lemmas.Bool.{cases_lt}
 use Rattle.label_lattice.specs.Order.{Order}
-use Rattle.part_cache.specs.Rows.{IsCacheOf, StandsFor, empty_cache}
-use Rattle.part_cache.proofs.Stands.{StandsFor-empty}
+use Rattle.part_cache.specs.declared.replacement.Replacement.{Replacement}
+use Rattle.part_cache.specs.Rows.{IsCacheOf, StandsBy, empty_cache}
+use Rattle.part_cache.proofs.Stands.{StandsBy-empty}
 
 -- each of its rows is empty
 pub row_empty : (order : Order) (sets ways k : ℕ) → get_or (empty_cache order sets ways).rows k [] ≡ []
@@ -31,5 +32,5 @@ IsCacheOf-empty order sets ways s w =
     }
 
 -- it stands for the empty history
-pub StandsFor-empty_cache : (order : Order) (sets ways : ℕ) → StandsFor (empty_cache order sets ways) []
-StandsFor-empty_cache order sets ways = StandsFor-empty (empty_cache order sets ways) (row_empty order sets ways)
+pub StandsBy-empty_cache : (r : Replacement) (order : Order) (sets ways : ℕ) → StandsBy r (empty_cache order sets ways) []
+StandsBy-empty_cache r order sets ways = StandsBy-empty r (empty_cache order sets ways) (row_empty order sets ways)

@@ -9,14 +9,16 @@ use Rattle.std.proofs.lemmas.List.Elements.{All-replicate, All-set}
 use Rattle.std.proofs.lemmas.Nat.{mul-add-lt, mod_below}
 use Rattle.std.proofs.lemmas.Bool.{cases_lt, and_from}
 use Rattle.label_lattice.specs.Order.{lattice_of, most_labels}
-use Rattle.part_cache.specs.Ways.{held_tags, AreWays, to_front}
-use Rattle.part_cache.specs.History.{Touched, hits}
-use Rattle.part_cache.specs.Rows.{Rows, IsCache, StandsFor, tags_at, has, found, touched, empty_cache}
+use Rattle.part_cache.specs.declared.replacement.Replacement.{Replacement}
+use Rattle.part_cache.specs.declared.replacement.Replacement.TheVariants.{LeastRecent}
+use Rattle.part_cache.specs.Ways.{held_tags, AreWays, to_front, replaced}
+use Rattle.part_cache.specs.History.{Touched, hits_by}
+use Rattle.part_cache.specs.Rows.{Rows, IsCache, StandsBy, tags_at, has, found, touched, touched_by, empty_cache}
 use Rattle.part_cache.specs.Body.{rows_view, IsBody}
 use Rattle.part_cache.specs.declared.ways.Ways.{Ways}
 use Rattle.part_cache.specs.declared.cache.PartCache.TheInside.{Inside}
-use Rattle.part_cache.proofs.Stands.{StandsFor-touched, some_below_at, found_is}
-use Rattle.part_cache.proofs.Empty.{StandsFor-empty_cache}
+use Rattle.part_cache.proofs.Stands.{StandsBy-touched, some_below_at, found_is}
+use Rattle.part_cache.proofs.Empty.{StandsBy-empty_cache}
 
 abbrev holds : Ways → List ℕ
 holds w = held_tags w.tags
@@ -83,13 +85,13 @@ module _ (c : Inside) (good : IsBody c) (v : Rows) (is : rows_view c ≡ v) (tag
             few = All-set (λ (w : Ways). length (held_tags w.tags) ≤ c.ways) c.slots.items row new few good.few;
           }
 
-      pub view_touched : held_tags new.tags ≡ to_front c.ways tag (held_tags old.tags) → rows_view after ≡ touched v tag label
-      view_touched e =
+      pub view_touched : (r : Replacement) → held_tags new.tags ≡ replaced r c.ways tag (held_tags old.tags) → rows_view after ≡ touched_by r v tag label
+      view_touched r e =
           ap (λ rs. record (rows_view c) { rows = rs })
           (map-set holds c.slots.items row new
-          ∙ ap (set (map holds c.slots.items) row) (e ∙ ap (to_front c.ways tag) at_place)
-          ∙ ap (λ r. set (map holds c.slots.items) r (to_front c.ways tag (tags_at (rows_view c) label (tag % c.sets)))) row_is)
-          ∙ ap (λ v. touched v tag label) is
+          ∙ ap (set (map holds c.slots.items) row) (e ∙ ap (replaced r c.ways tag) at_place)
+          ∙ ap (λ n. set (map holds c.slots.items) n (replaced r c.ways tag (tags_at (rows_view c) label (tag % c.sets)))) row_is)
+          ∙ ap (λ v. touched_by r v tag label) is
 
       view_kept : held_tags new.tags ≡ held_tags old.tags → rows_view after ≡ v
       view_kept e =
@@ -114,14 +116,15 @@ module _ (c : Inside) (good : IsBody c) (v : Rows) (is : rows_view c ≡ v) (tag
           where
             go : (b : Bool) → held_tags new.tags ≡ cond b (to_front c.ways tag (held_tags old.tags)) (held_tags old.tags)
                 → rows_view after ≡ cond b (touched v tag label) v
-            go true e = view_touched e
+            go true e = view_touched LeastRecent e
             go false e = view_kept e
 
 -- ---- a touch and the history
-pub touched_history : (v w : Rows) (c : Inside) → rows_view c ≡ v → IsBody c → (tag ew : ℕ) → ew < v.order.size → w ≡ touched v tag ew → (h : List Touched)
-    → StandsFor v h → StandsFor w (h ++ record { label = ew; tag = tag } ∷ [])
-touched_history v w c is good tag ew lt e h s =
-    subst (λ w. StandsFor w (h ++ record { label = ew; tag = tag } ∷ [])) (sym e) (StandsFor-touched v (subst IsCache is (body_cache c good)) tag ew h s)
+pub touched_history : (r : Replacement) (v w : Rows) (c : Inside) → rows_view c ≡ v → IsBody c → (tag ew : ℕ) → w ≡ touched_by r v tag ew
+    → (h : List Touched) → StandsBy r v h → StandsBy r w (h ++ record { label = ew; tag = tag } ∷ [])
+touched_history r v w c is good tag ew e h s =
+    subst (λ w. StandsBy r w (h ++ record { label = ew; tag = tag } ∷ [])) (sym e)
+    (StandsBy-touched v (subst IsCache is (body_cache c good)) r tag ew h s)
 
 -- ---- a lookup
 pub look_found : (v : Rows) (c : Inside) → rows_view c ≡ v → (tag er label size : ℕ) → size ≡ c.lattice.value.size → label < size
@@ -136,9 +139,9 @@ pub look_own : (v : Rows) (c : Inside) → rows_view c ≡ v → (tag er : ℕ) 
     → has v tag er ≡ true → found v tag er ≡ true
 look_own v c e tag er lt = look_found v c e tag er er c.lattice.value.size refl (subst (λ (v : Rows). er < v.order.size) (sym e) lt)
 
-pub look_history : (v : Rows) (c : Inside) → rows_view c ≡ v → IsBody c → (tag er : ℕ) (r : Bool) → r ≡ found v tag er → (h : List Touched) → StandsFor v h
-    → r ≡ hits v.order v.sets v.ways h er tag
-look_history v c e good tag er r f h s = f ∙ found_is v (subst IsCache e (body_cache c good)) tag er h s
+pub look_history : (v : Rows) (c : Inside) → rows_view c ≡ v → IsBody c → (tag er : ℕ) (b : Bool) → b ≡ found v tag er
+    → (r : Replacement) (h : List Touched) → StandsBy r v h → b ≡ hits_by r v.order v.sets v.ways h er tag
+look_history v c e good tag er b f r h s = f ∙ found_is v (subst IsCache e (body_cache c good)) r tag er h s
 
 -- ---- a new cache
 map_empty : (n : ℕ) (w : Ways) → held_tags w.tags ≡ [] → map holds (replicate n w) ≡ replicate n []
@@ -150,10 +153,10 @@ module _ (c : Inside) (n : ℕ) (w : Ways) (empty : held_tags w.tags ≡ []) (fi
   pub new_value : rows_view c ≡ empty_cache c.lattice.value c.sets c.ways
   new_value = ap (λ rs. record (rows_view c) { rows = rs }) (ap (map holds) filled ∙ map_empty n w empty ∙ ap (λ n. replicate n []) many)
 
-  pub new_empty : StandsFor (rows_view c) []
-  new_empty = subst (λ v. StandsFor v []) (sym new_value) (StandsFor-empty_cache c.lattice.value c.sets c.ways)
+  pub new_empty : (r : Replacement) → StandsBy r (rows_view c) []
+  new_empty r = subst (λ v. StandsBy r v []) (sym new_value) (StandsBy-empty_cache r c.lattice.value c.sets c.ways)
 
-  pub new_body : 0 < c.sets → 0 < c.ways → c.sets ≤ 64 → c.ways ≤ 8 → c.lattice.value.size ≤ most_labels → AreWays w.tags → IsBody c
+  pub new_body : 0 < c.sets → 0 < c.ways → c.sets ≤ 4096 → c.ways ≤ 8 → c.lattice.value.size ≤ most_labels → AreWays w.tags → IsBody c
   new_body some some' few few' labels set =
       record {
         some_set = some;

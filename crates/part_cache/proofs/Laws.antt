@@ -9,9 +9,10 @@ use Rattle.std.proofs.lemmas.Nat.{mod_below}
 use Rattle.std.proofs.lemmas.Bool.{cases_eq, cases_lt, cases_Bool, both_ways}
 use Rattle.label_lattice.specs.Lattice.{Flows}
 use Rattle.label_lattice.specs.Order.{Order, lattice_of}
-use Rattle.part_cache.specs.History.{Touched, some_below, held}
-use Rattle.part_cache.specs.Ways.{to_front}
-use Rattle.part_cache.specs.Rows.{Rows, tags_at, IsCache, IsCacheOf, StandsFor, has, found, touched, tag_rows, numbers_of, part_of}
+use Rattle.part_cache.specs.declared.replacement.Replacement.{Replacement}
+use Rattle.part_cache.specs.History.{Touched, some_below, held_by}
+use Rattle.part_cache.specs.Ways.{replaced}
+use Rattle.part_cache.specs.Rows.{Rows, tags_at, IsCache, IsCacheOf, StandsBy, has, found, touched_by, tag_rows, numbers_of, part_of}
 use Rattle.part_cache.proofs.Stands.{tags_here, tags_elsewhere, IsCache-touched, some_below_same}
 
 -- the numbers give the rows back
@@ -59,22 +60,25 @@ part_same c d label label' n h =
     ap numbers_of (map_same (tags_at c label) (tags_at d label') 0 c.sets (λ k lt. h k (omega arith)) ∙ ap (λ m. map (tags_at d label') (range_with_len 0 m)) n)
 
 module _ (order : Order) (sets ways : ℕ) where
-  pub touched_serves : (c : Rows) (tag ew : ℕ) → IsCacheOf order sets ways c → IsCacheOf order sets ways (touched c tag ew)
-  touched_serves c tag ew s = record { same_order = s.same_order; same_sets = s.same_sets; same_ways = s.same_ways; cache = IsCache-touched c s.cache tag ew }
+  pub touched_serves : (r : Replacement) (c : Rows) (tag ew : ℕ) → IsCacheOf order sets ways c → IsCacheOf order sets ways (touched_by r c tag ew)
+  touched_serves r c tag ew s =
+      record { same_order = s.same_order; same_sets = s.same_sets; same_ways = s.same_ways; cache = IsCache-touched c s.cache r tag ew }
 
   -- each part is what the history says is held
-  pub part_of_held : (c : Rows) (label : ℕ) (h : List Touched) → IsCacheOf order sets ways c → label < order.size → StandsFor c h
-      → part_of label c ≡ numbers_of (map (held sets ways h label) (range_with_len 0 sets))
-  part_of_held c label h s lt stands =
+  pub part_of_held : (r : Replacement) (c : Rows) (label : ℕ) (h : List Touched) → IsCacheOf order sets ways c → label < order.size → StandsBy r c h
+      → part_of label c ≡ numbers_of (map (held_by r sets ways h label) (range_with_len 0 sets))
+  part_of_held r c label h s lt stands =
       ap numbers_of
-      (map_same (tags_at c label) (held sets ways h label) 0 c.sets
+      (map_same (tags_at c label) (held_by r sets ways h label) 0 c.sets
       (λ k below. stands.each label k (subst (λ (o : Order). label < o.size) (sym s.same_order) lt) (omega arith)
-      ∙ ap (λ n. held n c.ways h label k) s.same_sets ∙ ap (λ n. held sets n h label k) s.same_ways)
-      ∙ ap (λ m. map (held sets ways h label) (range_with_len 0 m)) s.same_sets)
+      ∙ ap (λ n. held_by r n c.ways h label k) s.same_sets ∙ ap (λ n. held_by r sets n h label k) s.same_ways)
+      ∙ ap (λ m. map (held_by r sets ways h label) (range_with_len 0 m)) s.same_sets)
 
   -- the parts of other labels stay
-  pub part_elsewhere : (c : Rows) (tag ew label : ℕ) → IsCacheOf order sets ways c → (label ≡ ew → ⊥) → part_of label (touched c tag ew) ≡ part_of label c
-  part_elsewhere c tag ew label s ne = part_same (touched c tag ew) c label label refl (λ set h. tags_elsewhere c s.cache tag ew label set h (λ p. ne p.0))
+  pub part_elsewhere : (r : Replacement) (c : Rows) (tag ew label : ℕ) → IsCacheOf order sets ways c → (label ≡ ew → ⊥)
+      → part_of label (touched_by r c tag ew) ≡ part_of label c
+  part_elsewhere r c tag ew label s ne =
+      part_same (touched_by r c tag ew) c label label refl (λ set h. tags_elsewhere c s.cache r tag ew label set h (λ p. ne p.0))
 
   -- a lookup reads the parts that flow to er
   pub found_same : (c d : Rows) (tag er : ℕ) → IsCacheOf order sets ways c → IsCacheOf order sets ways d
@@ -103,43 +107,44 @@ module _ (order : Order) (sets ways : ℕ) where
           ap (λ b. b && has c tag label) f ∙ sym (ap (λ b. b && has d tag label) g)
 
   -- the touched rows of two caches whose rows there are equal
-  pub part_here : (c d : Rows) (tag ew : ℕ) → IsCacheOf order sets ways c → IsCacheOf order sets ways d → part_of ew c ≡ part_of ew d
-      → part_of ew (touched c tag ew) ≡ part_of ew (touched d tag ew)
-  part_here c d tag ew s t e =
+  pub part_here : (r : Replacement) (c d : Rows) (tag ew : ℕ) → IsCacheOf order sets ways c → IsCacheOf order sets ways d → part_of ew c ≡ part_of ew d
+      → part_of ew (touched_by r c tag ew) ≡ part_of ew (touched_by r d tag ew)
+  part_here r c d tag ew s t e =
       let n : c.sets ≡ d.sets = s.same_sets ∙ sym t.same_sets in
       let w : c.ways ≡ d.ways = s.same_ways ∙ sym t.same_ways in
       let z : c.order.size ≡ d.order.size = ap (λ (o : Order). o.size) (s.same_order ∙ sym t.same_order) in
-      part_same (touched c tag ew) (touched d tag ew) ew ew n (λ set h. row n w z set h (cases_lt ew c.order.size) (cases_eq set (tag % c.sets)))
+      part_same (touched_by r c tag ew) (touched_by r d tag ew) ew ew n (λ set h. row n w z set h (cases_lt ew c.order.size) (cases_eq set (tag % c.sets)))
     where
       -- a label that is none is not touched
-      past : (x : Rows) → IsCache x → x.order.size ≤ ew → (set : ℕ) → tags_at (touched x tag ew) ew set ≡ tags_at x ew set
+      past : (x : Rows) → IsCache x → x.order.size ≤ ew → (set : ℕ) → tags_at (touched_by r x tag ew) ew set ≡ tags_at x ew set
       past x good ge set = ap (λ rs. get_or rs (ew * x.sets + set) [])
-          (set_past x.rows (ew * x.sets + tag % x.sets) (to_front x.ways tag (tags_at x ew (tag % x.sets))) (grind (arith, good.each_set)))
+          (set_past x.rows (ew * x.sets + tag % x.sets) (replaced r x.ways tag (tags_at x ew (tag % x.sets))) (grind (arith, good.each_set)))
 
       row : (c.sets ≡ d.sets) → (c.ways ≡ d.ways) → (c.order.size ≡ d.order.size) → (set : ℕ) → set < c.sets → ((ew < c.order.size) ⊎ (c.order.size ≤ ew))
-          → ((set ≡ tag % c.sets) ⊎ (set ≡ tag % c.sets → ⊥)) → tags_at (touched c tag ew) ew set ≡ tags_at (touched d tag ew) ew set
+          → ((set ≡ tag % c.sets) ⊎ (set ≡ tag % c.sets → ⊥)) → tags_at (touched_by r c tag ew) ew set ≡ tags_at (touched_by r d tag ew) ew set
       row n w z set h (inr ge) q =
           past c s.cache ge set ∙ rows_same c d ew n e set h ∙ sym (past d t.cache (omega arith) set)
       row n w z set h (inl lt) (inr ne) =
-          tags_elsewhere c s.cache tag ew ew set h (λ p. ne p.1) ∙ rows_same c d ew n e set h
-          ∙ sym (tags_elsewhere d t.cache tag ew ew set (omega arith) (λ p. ne (p.1 ∙ ap (λ m. tag % m) (sym n))))
+          tags_elsewhere c s.cache r tag ew ew set h (λ p. ne p.1) ∙ rows_same c d ew n e set h
+          ∙ sym (tags_elsewhere d t.cache r tag ew ew set (omega arith) (λ p. ne (p.1 ∙ ap (λ m. tag % m) (sym n))))
       row n w z set h (inl lt) (inl q) =
           let same : tag % c.sets ≡ tag % d.sets = ap (λ m. tag % m) n in
           let old : tags_at c ew (tag % c.sets) ≡ tags_at d ew (tag % d.sets) =
           rows_same c d ew n e (tag % c.sets) (mod_below tag c.sets s.cache.some_set) ∙ ap (tags_at d ew) same in
-          ap (tags_at (touched c tag ew) ew) q
-          ∙ tags_here c s.cache tag ew lt
-          ∙ ap (to_front c.ways tag) old ∙ ap (λ m. to_front m tag (tags_at d ew (tag % d.sets))) w
-          ∙ sym (tags_here d t.cache tag ew (omega arith))
-          ∙ ap (tags_at (touched d tag ew) ew) (sym (q ∙ same))
+          ap (tags_at (touched_by r c tag ew) ew) q
+          ∙ tags_here c s.cache r tag ew lt
+          ∙ ap (replaced r c.ways tag) old ∙ ap (λ m. replaced r m tag (tags_at d ew (tag % d.sets))) w
+          ∙ sym (tags_here d t.cache r tag ew (omega arith))
+          ∙ ap (tags_at (touched_by r d tag ew) ew) (sym (q ∙ same))
 
-  pub part_agrees : (c d : Rows) (tag ew label : ℕ) → IsCacheOf order sets ways c → IsCacheOf order sets ways d → part_of label c ≡ part_of label d
-      → part_of label (touched c tag ew) ≡ part_of label (touched d tag ew)
-  part_agrees c d tag ew label s t e =
+  pub part_agrees : (r : Replacement) (c d : Rows) (tag ew label : ℕ) → IsCacheOf order sets ways c → IsCacheOf order sets ways d
+      → part_of label c ≡ part_of label d
+      → part_of label (touched_by r c tag ew) ≡ part_of label (touched_by r d tag ew)
+  part_agrees r c d tag ew label s t e =
       ⊎_elim
-      (λ (q : label ≡ ew). subst (λ l. part_of l c ≡ part_of l d → part_of l (touched c tag ew) ≡ part_of l (touched d tag ew)) (sym q)
-      (part_here c d tag ew s t) e)
-      (λ (ne : label ≡ ew → ⊥). part_elsewhere c tag ew label s ne ∙ e ∙ sym (part_elsewhere d tag ew label t ne))
+      (λ (q : label ≡ ew). subst (λ l. part_of l c ≡ part_of l d → part_of l (touched_by r c tag ew) ≡ part_of l (touched_by r d tag ew)) (sym q)
+      (part_here r c d tag ew s t) e)
+      (λ (ne : label ≡ ew → ⊥). part_elsewhere r c tag ew label s ne ∙ e ∙ sym (part_elsewhere r d tag ew label t ne))
       (cases_eq label ew)
 
 -- ---- a loop that compares the rows

@@ -1,4 +1,5 @@
 pub mod Near
+pub mod Replaced
 pub mod Stands
 pub mod Laws
 pub mod Empty

@@ -1,18 +1,19 @@
 -- A cache that stands for a history answers by it, and stands for the longer one after a touch.
-use Rattle.std.proofs.Common.{◌≡◌, ℕ, zero, suc, ◌+◌, ◌*◌, ◌%◌, ◌<◌, ◌≤◌, List, [], ◌∷◌, ◌++◌, length, take, get_or, Bool, true, false, refl, sym, ap, ◌∙◌}
+use Rattle.std.proofs.Common.{◌≡◌, ℕ, zero, suc, ◌+◌, ◌*◌, ◌%◌, ◌<◌, ◌≤◌, List, [], ◌∷◌, ◌++◌, length, get_or, Bool, true, false, refl, sym, ap, ◌∙◌}
 use Rattle.std.proofs.Common.{subst, ◌⊎◌, inl, inr, arith}
-use Rattle.std.specs.Prelude.{not, cond, eqb, ◌&&◌, ◌||◌, reverse, slice_set}
-use Rattle.std.specs.List.{filter, list_any}
-use Rattle.std.proofs.Common.{get_or-set_same, get_or-set_other, length-take, length-set}
+use Rattle.std.specs.Prelude.{cond, eqb, ◌&&◌, ◌||◌, reverse, slice_set}
+use Rattle.std.specs.List.{list_any}
+use Rattle.std.proofs.Common.{get_or-set_same, get_or-set_other, length-set}
 use Rattle.std.proofs.lemmas.List.{reverse-append, append-nil, set_past}
 use Rattle.std.proofs.lemmas.Nat.{mul-add-lt, same_from_place, mod_below}
 use Rattle.std.proofs.Common.{add-one}
 use Rattle.std.proofs.lemmas.Bool.{or_left, or_right, cases_eq, cases_lt, cases_Bool, eqb-true, eq-eqb, and_from, and_parts, both_ways}
 use Rattle.label_lattice.specs.Order.{lattice_of}
-use Rattle.part_cache.specs.History.{Touched, tags_in, distinct, holds, some_below, hits, held}
-use Rattle.part_cache.specs.Ways.{to_front}
-use Rattle.part_cache.specs.Rows.{Rows, tags_at, IsCache, has, found, touched, StandsFor}
-use Rattle.part_cache.proofs.Near.{near_is, front_is, any_near}
+use Rattle.part_cache.specs.declared.replacement.Replacement.{Replacement}
+use Rattle.part_cache.specs.History.{Touched, tags_in, row_of, holds_by, some_below, hits_by, held_by}
+use Rattle.part_cache.specs.Ways.{replaced}
+use Rattle.part_cache.specs.Rows.{Rows, tags_at, IsCache, has, found, touched_by, StandsBy}
+use Rattle.part_cache.proofs.Replaced.{row_none, row_front, any_held, length-replaced}
 
 abbrev pub is_at : ℕ → ℕ → ℕ → Touched → Bool
 is_at sets label set x = eqb x.label label && eqb (x.tag % sets) set
@@ -40,26 +41,18 @@ back_elsewhere : (sets label set : ℕ) (h : List Touched) (x : Touched) → is_
 back_elsewhere sets label set h x e =
     ap reverse (tags_in-push sets label set h x ∙ ap (λ b. tags_in sets label set h ++ cond b (x.tag ∷ []) []) e ∙ append-nil (tags_in sets label set h))
 
-held_is : (sets ways : ℕ) (h : List Touched) (label set : ℕ) → held sets ways h label set ≡ take ways (distinct (reverse (tags_in sets label set h)))
-held_is sets ways h label set = near_is ways (reverse (tags_in sets label set h))
-
-pub held_here : (sets ways : ℕ) (h : List Touched) (label tag : ℕ) → 0 < ways →
-    held sets ways (h ++ record { label = label; tag = tag } ∷ []) label (tag % sets) ≡ to_front ways tag (held sets ways h label (tag % sets))
-held_here sets ways h label tag some =
+pub held_here : (r : Replacement) (sets ways : ℕ) (h : List Touched) (label tag : ℕ) → 0 < ways →
+    held_by r sets ways (h ++ record { label = label; tag = tag } ∷ []) label (tag % sets)
+    ≡ replaced r ways tag (held_by r sets ways h label (tag % sets))
+held_here r sets ways h label tag some =
     let x : Touched = record { label = label; tag = tag } in
     let here : is_at sets label (tag % sets) x ≡ true =
     and_from (eqb label label) (eqb (tag % sets) (tag % sets)) (eq-eqb label label refl) (eq-eqb (tag % sets) (tag % sets) refl) in
-    held_is sets ways (h ++ x ∷ []) label (tag % sets)
-    ∙ ap (λ b. take ways (distinct b)) (back_here sets label (tag % sets) h x here)
-    ∙ front_is ways tag (reverse (tags_in sets label (tag % sets) h)) some
-    ∙ ap (to_front ways tag) (sym (held_is sets ways h label (tag % sets)))
+    ap (row_of r ways) (back_here sets label (tag % sets) h x here) ∙ row_front r ways tag (reverse (tags_in sets label (tag % sets) h)) some
 
-pub held_elsewhere : (sets ways : ℕ) (h : List Touched) (x : Touched) (label set : ℕ) → is_at sets label set x ≡ false →
-    held sets ways (h ++ x ∷ []) label set ≡ held sets ways h label set
-held_elsewhere sets ways h x label set e =
-    held_is sets ways (h ++ x ∷ []) label set
-    ∙ ap (λ b. take ways (distinct b)) (back_elsewhere sets label set h x e)
-    ∙ sym (held_is sets ways h label set)
+pub held_elsewhere : (r : Replacement) (sets ways : ℕ) (h : List Touched) (x : Touched) (label set : ℕ) → is_at sets label set x ≡ false →
+    held_by r sets ways (h ++ x ∷ []) label set ≡ held_by r sets ways h label set
+held_elsewhere r sets ways h x label set e = ap (row_of r ways) (back_elsewhere sets label set h x e)
 
 -- ---- one row of the cache
 
@@ -71,26 +64,24 @@ module _ (c : Rows) (good : IsCache c) where
   place_below tag ew h = omega (arith, good.each_set, mul-add-lt ew c.sets (tag % c.sets) c.order.size h (set_below tag))
 
   -- the touched row, where the label is one
-  pub tags_here : (tag ew : ℕ) → ew < c.order.size → tags_at (touched c tag ew) ew (tag % c.sets) ≡ to_front c.ways tag (tags_at c ew (tag % c.sets))
-  tags_here tag ew h =
-      get_or-set_same c.rows (ew * c.sets + tag % c.sets) (to_front c.ways tag (tags_at c ew (tag % c.sets))) []
+  pub tags_here : (r : Replacement) (tag ew : ℕ) → ew < c.order.size
+      → tags_at (touched_by r c tag ew) ew (tag % c.sets) ≡ replaced r c.ways tag (tags_at c ew (tag % c.sets))
+  tags_here r tag ew h =
+      get_or-set_same c.rows (ew * c.sets + tag % c.sets) (replaced r c.ways tag (tags_at c ew (tag % c.sets))) []
       (place_below tag ew h)
 
-  pub tags_elsewhere : (tag ew label set : ℕ) → set < c.sets → ((label ≡ ew) × (set ≡ tag % c.sets) → ⊥)
-      → tags_at (touched c tag ew) label set ≡ tags_at c label set
-  tags_elsewhere tag ew label set h ne =
-      get_or-set_other c.rows (ew * c.sets + tag % c.sets) (label * c.sets + set) (to_front c.ways tag (tags_at c ew (tag % c.sets))) []
+  pub tags_elsewhere : (r : Replacement) (tag ew label set : ℕ) → set < c.sets → ((label ≡ ew) × (set ≡ tag % c.sets) → ⊥)
+      → tags_at (touched_by r c tag ew) label set ≡ tags_at c label set
+  tags_elsewhere r tag ew label set h ne =
+      get_or-set_other c.rows (ew * c.sets + tag % c.sets) (label * c.sets + set) (replaced r c.ways tag (tags_at c ew (tag % c.sets))) []
       (λ e. ne (same_from_place label set ew (tag % c.sets) c.sets h (set_below tag) e))
 
-  length-to_front : (tag : ℕ) (row : List ℕ) → length (to_front c.ways tag row) ≤ c.ways
-  length-to_front tag row = omega (arith, length-take c.ways (tag ∷ filter (λ y. not (eqb tag y)) row))
-
-  pub IsCache-touched : (tag ew : ℕ) → IsCache (touched c tag ew)
-  IsCache-touched tag ew =
+  pub IsCache-touched : (r : Replacement) (tag ew : ℕ) → IsCache (touched_by r c tag ew)
+  IsCache-touched r tag ew =
       record {
         some_set = good.some_set;
         some_way = good.some_way;
-        each_set = length-set c.rows (ew * c.sets + tag % c.sets) (to_front c.ways tag (tags_at c ew (tag % c.sets))) ∙ good.each_set;
+        each_set = length-set c.rows (ew * c.sets + tag % c.sets) (replaced r c.ways tag (tags_at c ew (tag % c.sets))) ∙ good.each_set;
         few = λ k. short k (cases_eq k (ew * c.sets + tag % c.sets)) (cases_lt k (length c.rows));
       }
     where
@@ -98,58 +89,59 @@ module _ (c : Rows) (good : IsCache c) where
       place = ew * c.sets + tag % c.sets
 
       row : List ℕ
-      row = to_front c.ways tag (tags_at c ew (tag % c.sets))
+      row = replaced r c.ways tag (tags_at c ew (tag % c.sets))
 
       short : (k : ℕ) → ((k ≡ place) ⊎ (k ≡ place → ⊥)) → ((k < length c.rows) ⊎ (length c.rows ≤ k))
           → length (get_or (slice_set c.rows place row) k []) ≤ c.ways
       short k (inr ne) q = rw (get_or-set_other c.rows place k row [] ne) (good.few k)
       short k (inl e) (inl lt) = let l : place < length c.rows = omega arith in
-          rw (e, get_or-set_same c.rows place row [] l) (length-to_front tag (tags_at c ew (tag % c.sets)))
+          rw (e, get_or-set_same c.rows place row [] l) (length-replaced r c.ways tag (tags_at c ew (tag % c.sets)) (good.few place))
       short k (inl e) (inr ge) = let l : length c.rows ≤ place = omega arith in rw (set_past c.rows place row l) (good.few k)
 
   -- a number that is no label touches no row, and no row's history
-  pub StandsFor-touched : (tag ew : ℕ) (h : List Touched) → StandsFor c h
-      → StandsFor (touched c tag ew) (h ++ record { label = ew; tag = tag } ∷ [])
-  StandsFor-touched tag ew h stands =
+  pub StandsBy-touched : (r : Replacement) (tag ew : ℕ) (h : List Touched) → StandsBy r c h
+      → StandsBy r (touched_by r c tag ew) (h ++ record { label = ew; tag = tag } ∷ [])
+  StandsBy-touched r tag ew h stands =
       record { each = λ label set lb sb. go label set lb sb (cases_Bool (is_at c.sets label set (record { label = ew; tag = tag }))) }
     where
       go : (label set : ℕ) → label < c.order.size → set < c.sets
           → ((is_at c.sets label set (record { label = ew; tag = tag }) ≡ true) ⊎ (is_at c.sets label set (record { label = ew; tag = tag }) ≡ false)) →
-          tags_at (touched c tag ew) label set ≡ held c.sets c.ways (h ++ record { label = ew; tag = tag } ∷ []) label set
+          tags_at (touched_by r c tag ew) label set ≡ held_by r c.sets c.ways (h ++ record { label = ew; tag = tag } ∷ []) label set
       go label set lb sb (inl e) =
           let p = and_parts (eqb ew label) (eqb (tag % c.sets) set) e in
           let same_label : ew ≡ label = eqb-true ew label p.0 in
           let same_set : tag % c.sets ≡ set = eqb-true (tag % c.sets) set p.1 in
           let in_range : ew < c.order.size = omega (arith, same_label, lb) in
-          subst (λ l. tags_at (touched c tag ew) l set ≡ held c.sets c.ways (h ++ record { label = ew; tag = tag } ∷ []) l set) same_label
-          (subst (λ s. tags_at (touched c tag ew) ew s ≡ held c.sets c.ways (h ++ record { label = ew; tag = tag } ∷ []) ew s) same_set
-          (tags_here tag ew in_range ∙ ap (to_front c.ways tag) (stands.each ew (tag % c.sets) in_range (set_below tag))
-          ∙ sym (held_here c.sets c.ways h ew tag good.some_way)))
+          subst (λ l. tags_at (touched_by r c tag ew) l set ≡ held_by r c.sets c.ways (h ++ record { label = ew; tag = tag } ∷ []) l set) same_label
+          (subst (λ s. tags_at (touched_by r c tag ew) ew s ≡ held_by r c.sets c.ways (h ++ record { label = ew; tag = tag } ∷ []) ew s) same_set
+          (tags_here r tag ew in_range ∙ ap (replaced r c.ways tag) (stands.each ew (tag % c.sets) in_range (set_below tag))
+          ∙ sym (held_here r c.sets c.ways h ew tag good.some_way)))
       go label set lb sb (inr e) =
           let apart : (label ≡ ew) × (set ≡ tag % c.sets) → ⊥ =
           λ p. both_ways (is_at c.sets label set (record { label = ew; tag = tag })) e
           (and_from (eqb ew label) (eqb (tag % c.sets) set) (eq-eqb ew label (sym p.0)) (eq-eqb (tag % c.sets) set (sym p.1))) in
-          tags_elsewhere tag ew label set sb apart ∙ stands.each label set lb sb
-          ∙ sym (held_elsewhere c.sets c.ways h (record { label = ew; tag = tag }) label set e)
+          tags_elsewhere r tag ew label set sb apart ∙ stands.each label set lb sb
+          ∙ sym (held_elsewhere r c.sets c.ways h (record { label = ew; tag = tag }) label set e)
 
   pub some_below_same : (n : ℕ) (p q : ℕ → Bool) → ((k : ℕ) → k < n → p k ≡ q k) → some_below n p ≡ some_below n q
   some_below_same zero p q h = refl
   some_below_same (suc n) p q h = rw (h n (omega arith), some_below_same n p q (λ k lt. h k (omega arith))) refl
 
-  pub has_is : (tag label : ℕ) (h : List Touched) → label < c.order.size → StandsFor c h → has c tag label ≡ holds c.sets c.ways h label tag
-  has_is tag label h lt stands =
-      ap (list_any (eqb tag)) (stands.each label (tag % c.sets) lt (set_below tag)) ∙ any_near c.ways tag (reverse (tags_in c.sets label (tag % c.sets) h))
+  pub has_is : (r : Replacement) (tag label : ℕ) (h : List Touched) → label < c.order.size → StandsBy r c h
+      → has c tag label ≡ holds_by r c.sets c.ways h label tag
+  has_is r tag label h lt stands =
+      ap (list_any (eqb tag)) (stands.each label (tag % c.sets) lt (set_below tag)) ∙ any_held r c.ways tag (reverse (tags_in c.sets label (tag % c.sets) h))
 
-  pub found_is : (tag er : ℕ) (h : List Touched) → StandsFor c h → found c tag er ≡ hits c.order c.sets c.ways h er tag
-  found_is tag er h stands =
+  pub found_is : (r : Replacement) (tag er : ℕ) (h : List Touched) → StandsBy r c h → found c tag er ≡ hits_by r c.order c.sets c.ways h er tag
+  found_is r tag er h stands =
       some_below_same c.order.size
       (λ label. (lattice_of c.order).flows label er && has c tag label)
-      (λ label. (lattice_of c.order).flows label er && holds c.sets c.ways h label tag)
-      (λ label lt. ap (λ b. (lattice_of c.order).flows label er && b) (has_is tag label h lt stands))
+      (λ label. (lattice_of c.order).flows label er && holds_by r c.sets c.ways h label tag)
+      (λ label lt. ap (λ b. (lattice_of c.order).flows label er && b) (has_is r tag label h lt stands))
 
 -- a cache all of whose rows are empty stands for the empty history
-pub StandsFor-empty : (c : Rows) → ((k : ℕ) → get_or c.rows k [] ≡ []) → StandsFor c []
-StandsFor-empty c none = record { each = λ label set lb sb. none (label * c.sets + set) }
+pub StandsBy-empty : (r : Replacement) (c : Rows) → ((k : ℕ) → get_or c.rows k [] ≡ []) → StandsBy r c []
+StandsBy-empty r c none = record { each = λ label set lb sb. none (label * c.sets + set) ∙ sym (row_none r c.ways) }
 
 -- ---- a loop over the labels
 pub some_below_more : (n : ℕ) (p : ℕ → Bool) → p n ≡ false → some_below n p ≡ false → some_below (n + 1) p ≡ false

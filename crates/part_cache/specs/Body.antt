@@ -20,7 +20,7 @@ pub record IsBody (c : Inside) : Type 0 where
   pub some_set : 0 < c.sets
   pub some_way : 0 < c.ways
   pub labels : c.lattice.value.size ≤ most_labels
-  pub sets_below : c.sets ≤ 64
+  pub sets_below : c.sets ≤ 4096
   pub ways_below : c.ways ≤ 8
   pub long : length c.slots.items ≡ c.lattice.value.size * c.sets
   pub ways_are : All (λ (w : Ways). AreWays w.tags) c.slots.items

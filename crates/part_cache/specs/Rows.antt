@@ -2,10 +2,12 @@
 use Rattle.std.specs.Prelude.{◌≡◌, ℕ, ◌+◌, ◌*◌, ◌%◌, ◌<◌, ◌≤◌, Bool, eqb, ◌&&◌, List, [], ◌∷◌, ◌++◌, length, map, replicate, slice_index_or, slice_set}
 use Rattle.std.specs.List.{list_any, range_with_len}
 use Rattle.label_lattice.specs.Order.{Order, lattice_of}
-use Rattle.part_cache.specs.Ways.{to_front}
-use Rattle.part_cache.specs.History.{Touched, some_below, held}
+use Rattle.part_cache.specs.declared.replacement.Replacement.{Replacement}
+use Rattle.part_cache.specs.declared.replacement.Replacement.TheVariants.{LeastRecent}
+use Rattle.part_cache.specs.Ways.{replaced}
+use Rattle.part_cache.specs.History.{Touched, some_below, held_by}
 
--- of each set of each partition the tags that it holds, the latest touched first; the row of a label's set
+-- of each set of each partition the tags that it holds, the one that goes first at the end; the row of a label's set
 -- is label * sets + set
 pub record Rows : Type 0 where
   pub order : Order
@@ -32,13 +34,20 @@ abbrev pub found : Rows → ℕ → ℕ → Bool
 found c tag er = some_below c.order.size (λ label. (lattice_of c.order).flows label er && has c tag label)
 
 -- the cache after a touch of the tag in the partition of ew: that partition's set of the tag is touched
+abbrev pub touched_by : Replacement → Rows → ℕ → ℕ → Rows
+touched_by r c tag ew =
+    record c { rows = slice_set c.rows (ew * c.sets + tag % c.sets) (replaced r c.ways tag (tags_at c ew (tag % c.sets))) }
+
+-- the same where the least recently used goes first
 abbrev pub touched : Rows → ℕ → ℕ → Rows
-touched c tag ew =
-    record c { rows = slice_set c.rows (ew * c.sets + tag % c.sets) (to_front c.ways tag (tags_at c ew (tag % c.sets))) }
+touched = touched_by LeastRecent
 
 -- the tags of each row are those that the history says are held
-pub record StandsFor (c : Rows) (history : List Touched) : Type 0 where
-  pub each : (label set : ℕ) → label < c.order.size → set < c.sets → tags_at c label set ≡ held c.sets c.ways history label set
+pub record StandsBy (r : Replacement) (c : Rows) (history : List Touched) : Type 0 where
+  pub each : (label set : ℕ) → label < c.order.size → set < c.sets → tags_at c label set ≡ held_by r c.sets c.ways history label set
+
+abbrev pub StandsFor : Rows → List Touched → Type 0
+StandsFor = StandsBy LeastRecent
 
 -- the tags of a partition, by set
 abbrev pub tag_rows : Rows → ℕ → List (List ℕ)

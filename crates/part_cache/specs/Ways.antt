@@ -1,6 +1,8 @@
--- The ways of a set in memory: the tags that it holds, the latest touched first, and then empty ways.
-use Rattle.std.specs.Prelude.{◌≡◌, ℕ, ◌-◌, ◌^◌, ◌<◌, ◌≤◌, false, not, eqb, List, [], ◌∷◌, ◌++◌, length, take, replicate}
+-- The ways of a set in memory: the tags that it holds, the one that goes first at the end, and then empty ways.
+use Rattle.std.specs.Prelude.{◌≡◌, ℕ, ◌-◌, ◌^◌, ◌<◌, ◌≤◌, false, cond, not, eqb, List, [], ◌∷◌, ◌++◌, length, take, replicate}
 use Rattle.std.specs.List.{All, filter, list_any}
+use Rattle.part_cache.specs.declared.replacement.Replacement.{Replacement}
+use Rattle.part_cache.specs.declared.replacement.Replacement.TheVariants.{LeastRecent, FirstCome}
 
 -- what stands in a way that has no tag
 abbrev pub empty_way : ℕ
@@ -30,3 +32,8 @@ pub record AreWays (tags : List ℕ) : Type 0 where
 -- the tag at the front, and the latest of the others, as many as there are ways left
 abbrev pub to_front : ℕ → ℕ → List ℕ → List ℕ
 to_front ways tag row = take ways (tag ∷ filter (λ y. not (eqb tag y)) row)
+
+-- a set after a touch of the tag: by the rule of the first that came, a tag that it holds changes nothing
+abbrev pub replaced : Replacement → ℕ → ℕ → List ℕ → List ℕ
+replaced LeastRecent ways tag row = to_front ways tag row
+replaced FirstCome ways tag row = cond (list_any (eqb tag) row) row (take ways (tag ∷ row))

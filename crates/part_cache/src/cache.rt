@@ -2,9 +2,11 @@
 
 ghost use Rattle.std.specs.Prelude.{◌≡◌, ◌+◌, ◌%◌, ◌<◌, ◌≤◌, ℕ, [], ◌∷◌, ◌++◌, List, cond, true, false, IfOk, IsTrue, ◌↔◌};
 ghost use Rattle.part_cache.specs.Ways.{held_tags, AreWays};
-ghost use Rattle.part_cache.specs.History.{Touched, hits};
-ghost use Rattle.part_cache.specs.Rows.{StandsFor, IsCacheOf, empty_cache, part_of, tags_at, has, found, touched};
+ghost use Rattle.part_cache.specs.declared.replacement.Replacement.{Replacement};
+ghost use Rattle.part_cache.specs.History.{Touched, hits_by};
+ghost use Rattle.part_cache.specs.Rows.{StandsBy, StandsFor, IsCacheOf, empty_cache, part_of, tags_at, has, found, touched, touched_by};
 
+use crate::replacement::Replacement;
 use crate::ways::Ways;
 use label_lattice::label::Label;
 use label_lattice::lattice::Lattice;
@@ -47,7 +49,7 @@ fn set_of(tag: u32, sets: u32) -> u32
 }
 
 impl PartCache {
-    /// An empty cache of 1 to 64 sets with 1 to 8 ways for each label, which shares the lattice. Fails only for want of memory.
+    /// An empty cache of 1 to 4,096 sets with 1 to 8 ways for each label, which shares the lattice. Fails only for want of memory.
     pub fn new(
         alloc: Global,
         lattice: &Rc<Lattice>,
@@ -55,12 +57,12 @@ impl PartCache {
         ways: u32,
     ) -> Result<PartCache, Memory>
         requires some_set { 0 < sets }
-        requires few_sets { sets ≤ 64 }
+        requires few_sets { sets ≤ 4096 }
         requires some_way { 0 < ways }
         requires few_ways { ways ≤ 8 }
         ensures value { IfOk result (λ c. c ≡ empty_cache lattice.now.value sets ways) }
         ensures cache { IfOk result (IsCacheOf lattice.now.value sets ways) }
-        ensures history { IfOk result (λ c. StandsFor c []) }
+        ensures history { IfOk result (λ c. (r : Replacement) → StandsBy r c []) }
     {
         let count = lattice.size() as usize * sets as usize;
         let slots = vec![in alloc; Ways::none(); count]?;
@@ -85,8 +87,8 @@ impl PartCache {
     pub fn look(&self, tag: u32, er: Label) -> bool
         requires { er.number < self.now.order.size }
         ensures found { result ≡ found self.now tag er.number }
-        ensures history { (h : List Touched) → StandsFor self.now h
-            → result ≡ hits self.now.order self.now.sets self.now.ways h er.number tag }
+        ensures history { (r : Replacement) (h : List Touched) → StandsBy r self.now h
+            → result ≡ hits_by r self.now.order self.now.sets self.now.ways h er.number tag }
     {
         self.lattice.laws();
         self.has(tag, er) || self.look_in_others(tag, er)
@@ -117,9 +119,21 @@ impl PartCache {
         ensures history { (h : List Touched) → StandsFor self.old h
             → StandsFor self.new (h ++ record { label = ew.number; tag = tag } ∷ []) }
     {
+        self.touch_by(Replacement::LeastRecent, tag, ew);
+    }
+
+    /// Touches the tag in its set of the partition of `ew` by the rule of replacement. A tag that is not there comes
+    /// to the front, and where no way is left the last one of the set goes. One that is there comes to the front
+    /// where the least recently used goes first, and else stays where it is. Takes no memory.
+    pub fn touch_by(&mut self, replacement: Replacement, tag: u32, ew: Label)
+        requires { ew.number < self.old.order.size }
+        ensures touched { self.new ≡ touched_by replacement self.old tag ew.number }
+        ensures history { (h : List Touched) → StandsBy replacement self.old h
+            → StandsBy replacement self.new (h ++ record { label = ew.number; tag = tag } ∷ []) }
+    {
         let row = usize::from(ew.number) * self.sets as usize + set_of(tag, self.sets) as usize;
         let ways = self.ways as usize;
-        self.slots[row].touch(ways, tag);
+        self.slots[row].touch_by(replacement, ways, tag);
     }
 
     /// Touches the tag where the partition of the label holds it, and else changes nothing: whether it holds

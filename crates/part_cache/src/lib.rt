@@ -2,6 +2,7 @@
 #![tactic(auto)]
 
 pub mod cache;
+pub mod replacement;
 #[cfg(test)]
 mod tests;
 mod ways;

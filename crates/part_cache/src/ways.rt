@@ -2,12 +2,14 @@
 
 ghost use Rattle.std.specs.Prelude.{◌≡◌, ◌+◌, ◌<◌, ◌≤◌, ℕ, List, [], ◌∷◌, ◌++◌, length, take, drop, slice_index, cond, eqb, MatchOption, IsTrue, ◌↔◌};
 ghost use Rattle.std.specs.List.{list_any};
-ghost use Rattle.part_cache.specs.Ways.{AreWays, absent, held_tags, to_front};
+ghost use Rattle.part_cache.specs.Ways.{AreWays, absent, held_tags, to_front, replaced};
+
+use crate::replacement::Replacement;
 
 /// What stands in a way that has no tag. No tag is so great.
 const EMPTY: u64 = 18_446_744_073_709_551_615;
 
-/// The tags of one set, the latest touched first, and then empty ways.
+/// The tags of one set, the one that goes first at the end, and then empty ways.
 #[derive(Clone, Copy)]
 pub struct Ways {
     tags: [u64; 8],
@@ -74,6 +76,35 @@ impl Ways {
         match self.place(tag) {
             Some(way) => self.rotate(way, tag),
             None => self.rotate(ways - 1, tag),
+        }
+    }
+
+    /// The tag is touched by the rule of replacement.
+    pub fn touch_by(&mut self, replacement: Replacement, ways: usize, tag: u32)
+        requires some { 0 < ways }
+        requires ways { ways ≤ 8 }
+        requires set { AreWays self.old.tags }
+        requires few { length (held_tags self.old.tags) ≤ ways }
+        ensures row { held_tags self.new.tags ≡ replaced replacement ways tag (held_tags self.old.tags) }
+        ensures set { AreWays self.new.tags }
+    {
+        match replacement {
+            Replacement::LeastRecent => self.touch(ways, tag),
+            Replacement::FirstCome => self.come(ways, tag),
+        }
+    }
+
+    // The tag comes to the front where no way has it. Where one does, nothing changes.
+    fn come(&mut self, ways: usize, tag: u32)
+        requires some { 0 < ways }
+        requires ways { ways ≤ 8 }
+        requires set { AreWays self.old.tags }
+        requires few { length (held_tags self.old.tags) ≤ ways }
+        ensures row { held_tags self.new.tags ≡ replaced Replacement.FirstCome ways tag (held_tags self.old.tags) }
+        ensures set { AreWays self.new.tags }
+    {
+        if !self.holds(tag) {
+            self.enter(ways, tag);
         }
     }
 

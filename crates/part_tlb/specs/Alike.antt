@@ -10,10 +10,11 @@ use Rattle.env_contract.specs.declared.place.Place.TheVariants.{Page, Code, Data
 use Rattle.env_contract.specs.declared.place.Touch.{Touch}
 use Rattle.env_contract.specs.Alike.{DoesAs}
 use Rattle.env_contract.specs.Flat.{flat_env}
+use Rattle.part_cache.specs.declared.replacement.Replacement.TheVariants.{LeastRecent}
 use Rattle.part_cache.specs.History.{Touched, held}
 use Rattle.part_cache.specs.Rows.{numbers_of}
 use Rattle.part_cache.proofs.Laws.{part_of_held}
-use Rattle.part_cache.proofs.Empty.{IsCacheOf-empty, StandsFor-empty_cache}
+use Rattle.part_cache.proofs.Empty.{IsCacheOf-empty, StandsBy-empty_cache}
 use Rattle.part_tlb.specs.declared.part.PartEnv.{PartEnv}
 use Rattle.part_tlb.specs.declared.part2.Part2Env.{Part2Env}
 use Rattle.part_tlb.specs.Machine.{touches_in, access_cost, part_at as machine_part, hardware_by_history}
@@ -55,15 +56,15 @@ no_level order =
 one_part : (order : Order) (q : Place) (l : ℕ) (e : PartEnv) (h : List Touch) → l < order.size → Keeps part_structure order e h
     → part_at part_structure q l e ≡ machine_part part_machine order q l h
 one_part order Page l e h lt k =
-    part_of_held order 1 4 e.buffer l (touches_at Page h) (k.made.each Page) lt (k.stands.each Page)
+    part_of_held order 1 4 LeastRecent e.buffer l (touches_at Page h) (k.made.each Page) lt (k.stands.each Page)
     ∙ held_same 1 4 l (touches_at Page h) (touches_in part_machine order buffer_bank Page h)
     (touches_are part_machine order buffer_bank Page (λ l. refl) (λ a. refl) h)
 one_part order Code l e h lt k =
-    part_of_held order 8 2 e.code_cache l (touches_at Code h) (k.made.each Code) lt (k.stands.each Code)
+    part_of_held order 8 2 LeastRecent e.code_cache l (touches_at Code h) (k.made.each Code) lt (k.stands.each Code)
     ∙ held_same 8 2 l (touches_at Code h) (touches_in part_machine order code_bank Code h)
     (touches_are part_machine order code_bank Code (λ l. refl) (λ a. refl) h)
 one_part order Data l e h lt k =
-    part_of_held order 8 2 e.data_cache l (touches_at Data h) (k.made.each Data) lt (k.stands.each Data)
+    part_of_held order 8 2 LeastRecent e.data_cache l (touches_at Data h) (k.made.each Data) lt (k.stands.each Data)
     ∙ held_same 8 2 l (touches_at Data h) (touches_in part_machine order data_bank Data h)
     (touches_are part_machine order data_bank Data (λ l. refl) (λ a. refl) h)
 one_part order Second l e h lt k = refl
@@ -85,7 +86,8 @@ empty_keeps order =
     record {
       made = part_serves order (empty_part order) (IsCacheOf-empty order 1 4 (omega arith) (omega arith))
           (IsCacheOf-empty order 8 2 (omega arith) (omega arith)) (IsCacheOf-empty order 8 2 (omega arith) (omega arith));
-      stands = part_stands (empty_part order) (StandsFor-empty_cache order 1 4) (StandsFor-empty_cache order 8 2) (StandsFor-empty_cache order 8 2);
+      stands = part_stands (empty_part order) (StandsBy-empty_cache LeastRecent order 1 4) (StandsBy-empty_cache LeastRecent order 8 2)
+          (StandsBy-empty_cache LeastRecent order 8 2);
     }
 
 pub one_start : (order : Order) (touches : List Touch) → All (λ t. t.label.number < order.size) touches
@@ -101,19 +103,19 @@ one_start order touches below =
 two_part : (order : Order) (q : Place) (l : ℕ) (e : Part2Env) (h : List Touch) → l < order.size → Keeps part2_structure order e h
     → part_at part2_structure q l e ≡ machine_part part2_machine order q l h
 two_part order Page l e h lt k =
-    part_of_held order 1 4 e.first.buffer l (touches_at Page h) (k.made.each Page) lt (k.stands.each Page)
+    part_of_held order 1 4 LeastRecent e.first.buffer l (touches_at Page h) (k.made.each Page) lt (k.stands.each Page)
     ∙ held_same 1 4 l (touches_at Page h) (touches_in part2_machine order buffer_bank Page h)
     (touches_are part2_machine order buffer_bank Page (λ l. refl) (λ a. refl) h)
 two_part order Code l e h lt k =
-    part_of_held order 8 2 e.first.code_cache l (touches_at Code h) (k.made.each Code) lt (k.stands.each Code)
+    part_of_held order 8 2 LeastRecent e.first.code_cache l (touches_at Code h) (k.made.each Code) lt (k.stands.each Code)
     ∙ held_same 8 2 l (touches_at Code h) (touches_in part2_machine order code_bank Code h)
     (touches_are part2_machine order code_bank Code (λ l. refl) (λ a. refl) h)
 two_part order Data l e h lt k =
-    part_of_held order 8 2 e.first.data_cache l (touches_at Data h) (k.made.each Data) lt (k.stands.each Data)
+    part_of_held order 8 2 LeastRecent e.first.data_cache l (touches_at Data h) (k.made.each Data) lt (k.stands.each Data)
     ∙ held_same 8 2 l (touches_at Data h) (touches_in part2_machine order data_bank Data h)
     (touches_are part2_machine order data_bank Data (λ l. refl) (λ a. refl) h)
 two_part order Second l e h lt k =
-    part_of_held order 32 4 e.second l (touches_at Second h) (k.made.each Second) lt (k.stands.each Second)
+    part_of_held order 32 4 LeastRecent e.second l (touches_at Second h) (k.made.each Second) lt (k.stands.each Second)
     ∙ held_same 32 4 l (touches_at Second h) (touches_in part2_machine order second_bank Second h)
     (touches_are part2_machine order second_bank Second (λ l. refl) (λ a. refl) h)
 
@@ -134,7 +136,7 @@ empty2_keeps order =
     let k = empty_keeps order in
     record {
       made = part2_serves order (empty_part2 order) k.made (IsCacheOf-empty order 32 4 (omega arith) (omega arith));
-      stands = part2_stands (empty_part2 order) k.stands (StandsFor-empty_cache order 32 4);
+      stands = part2_stands (empty_part2 order) k.stands (StandsBy-empty_cache LeastRecent order 32 4);
     }
 
 pub two_start : (order : Order) (touches : List Touch) → All (λ t. t.label.number < order.size) touches

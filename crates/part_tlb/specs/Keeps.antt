@@ -4,6 +4,7 @@ use Rattle.std.specs.Prelude.{IfSome}
 use Rattle.std.specs.Option.{option_map_or}
 use Rattle.label_lattice.specs.Order.{Order}
 use Rattle.env_contract.specs.declared.place.Place.{Place}
+use Rattle.part_cache.specs.declared.replacement.Replacement.TheVariants.{LeastRecent}
 use Rattle.part_cache.specs.Rows.{Rows, IsCacheOf, touched, part_of}
 use Rattle.part_cache.proofs.Laws.{touched_serves, part_elsewhere, part_agrees}
 use Rattle.part_tlb.specs.Machine.{is_place}
@@ -23,7 +24,7 @@ module _ {E : Type 0} (structure : Place → Option (E → Rows)) (touched_at : 
       moved : (p : Place) (at : E → Rows) → IsCacheOf order (sets_at p) (ways_at p) (at e) → Moves touched_at p q at
           → IsCacheOf order (sets_at p) (ways_at p) (at (touched_at q tag ew e))
       moved p at c (touches same t) = subst (IsCacheOf order (sets_at p) (ways_at p)) (sym (t tag ew e))
-          (touched_serves order (sets_at p) (ways_at p) (at e) tag ew c)
+          (touched_serves order (sets_at p) (ways_at p) LeastRecent (at e) tag ew c)
       moved p at c (leaves apart t) = subst (IsCacheOf order (sets_at p) (ways_at p)) (sym (t tag ew e)) c
 
       go : (p : Place) (o : Option (E → Rows)) → IfSome o (λ at. IsCacheOf order (sets_at p) (ways_at p) (at e)) → IfSome o (Moves touched_at p q)
@@ -37,7 +38,7 @@ module _ {E : Type 0} (structure : Place → Option (E → Rows)) (touched_at : 
     where
       moved : (at : E → Rows) → IsCacheOf order (sets_at p) (ways_at p) (at e) → Moves touched_at p q at
           → part_of l (at (touched_at q tag ew e)) ≡ part_of l (at e)
-      moved at c (touches same t) = ap (part_of l) (t tag ew e) ∙ part_elsewhere order (sets_at p) (ways_at p) (at e) tag ew l c ne
+      moved at c (touches same t) = ap (part_of l) (t tag ew e) ∙ part_elsewhere order (sets_at p) (ways_at p) LeastRecent (at e) tag ew l c ne
       moved at c (leaves apart t) = ap (part_of l) (t tag ew e)
 
       go : (o : Option (E → Rows)) → IfSome o (λ at. IsCacheOf order (sets_at p) (ways_at p) (at e)) → IfSome o (Moves touched_at p q) →
@@ -51,7 +52,7 @@ module _ {E : Type 0} (structure : Place → Option (E → Rows)) (touched_at : 
     where
       moved : (at : E → Rows) → IsCacheOf order (sets_at p) (ways_at p) (at e) → IsCacheOf order (sets_at p) (ways_at p) (at f) → Moves touched_at p q at
           → part_of l (at e) ≡ part_of l (at f) → part_of l (at (touched_at q tag ew e)) ≡ part_of l (at (touched_at q tag ew f))
-      moved at c d (touches same m) h = ap (part_of l) (m tag ew e) ∙ part_agrees order (sets_at p) (ways_at p) (at e) (at f) tag ew l c d h
+      moved at c d (touches same m) h = ap (part_of l) (m tag ew e) ∙ part_agrees order (sets_at p) (ways_at p) LeastRecent (at e) (at f) tag ew l c d h
           ∙ sym (ap (part_of l) (m tag ew f))
       moved at c d (leaves apart m) h = ap (part_of l) (m tag ew e) ∙ h ∙ sym (ap (part_of l) (m tag ew f))
 

@@ -9,7 +9,7 @@ use Rattle.env_contract.specs.declared.place.Place.{Place}
 use Rattle.env_contract.specs.declared.place.Place.TheVariants.{Page, Code, Data, Second}
 use Rattle.env_contract.specs.declared.place.Touch.{Touch}
 use Rattle.env_contract.specs.Env.{Env}
-use Rattle.part_cache.specs.History.{Touched, hits, held}
+use Rattle.part_cache.specs.History.{Touched, hits_by, held_by}
 use Rattle.part_cache.specs.Rows.{numbers_of}
 use Rattle.part_tlb.specs.declared.bank.Bank.{Bank}
 use Rattle.part_tlb.specs.declared.bank.Hardware.{Hardware}
@@ -61,7 +61,7 @@ module _ (hw : Hardware) (order : Order) where
 
   -- a look-up of an address in a bank hits
   abbrev pub hits_in : Bank → Place → List Touch → ℕ → ℕ → Bool
-  hits_in b p history er address = hits order b.sets b.ways (touches_in b p history) (home hw order er) (address / b.bytes)
+  hits_in b p history er address = hits_by b.replacement order b.sets b.ways (touches_in b p history) (home hw order er) (address / b.bytes)
 
   -- a look-up at a place hits: never where there is no bank
   abbrev pub hits_at : Place → List Touch → ℕ → ℕ → Bool
@@ -78,9 +78,9 @@ module _ (hw : Hardware) (order : Order) where
       cost_at Page history er address + cost_at (line_place k) history er address
       + cond (hits_at (line_place k) history er address) 0 (cost_at Second history er address)
 
-  -- the tags that a set of a label's partition of a bank holds, the latest touched first
+  -- the tags that a set of a label's partition of a bank holds, by its rule of replacement
   abbrev pub held_in : Bank → Place → List Touch → ℕ → ℕ → List ℕ
-  held_in b p history label set = held b.sets b.ways (touches_in b p history) label set
+  held_in b p history label set = held_by b.replacement b.sets b.ways (touches_in b p history) label set
 
   -- what a label's partition of a bank holds, as one list of numbers
   abbrev pub bank_part : Bank → Place → ℕ → List Touch → List ℕ

@@ -11,9 +11,11 @@ use Rattle.env_contract.specs.declared.place.Kind.TheVariants as kind
 use Rattle.env_contract.specs.declared.place.Place.{Place}
 use Rattle.env_contract.specs.declared.place.Place.TheVariants.{Page, Code, Data, Second}
 use Rattle.env_contract.specs.declared.place.Touch.{Touch}
-use Rattle.part_cache.specs.History.{Touched, hits}
-use Rattle.part_cache.specs.Rows.{Rows, IsCacheOf, StandsFor, found, touched}
-use Rattle.part_cache.proofs.Stands.{found_is, StandsFor-touched}
+use Rattle.part_cache.specs.declared.replacement.Replacement.{Replacement}
+use Rattle.part_cache.specs.declared.replacement.Replacement.TheVariants.{LeastRecent}
+use Rattle.part_cache.specs.History.{Touched, hits, hits_by}
+use Rattle.part_cache.specs.Rows.{Rows, IsCacheOf, StandsBy, StandsFor, found, touched}
+use Rattle.part_cache.proofs.Stands.{found_is, StandsBy-touched}
 use Rattle.part_tlb.specs.declared.part.PartEnv.{PartEnv}
 use Rattle.part_tlb.specs.declared.part2.Part2Env.{Part2Env}
 use Rattle.part_tlb.specs.declared.bank.Bank.{Bank}
@@ -102,7 +104,7 @@ module _ {E : Type 0} (structure : Place → Option (E → Rows)) (touched_at : 
       moved p at c d (touches same t) =
           subst (λ v. StandsFor v (touches_at p (h ++ x ∷ []))) (sym (t tag ew e))
           (subst (StandsFor (touched (at e) tag ew)) (here p same)
-          (StandsFor-touched (at e) c.cache tag ew (touches_at p h) d))
+          (StandsBy-touched (at e) c.cache LeastRecent tag ew (touches_at p h) d))
       moved p at c d (leaves apart t) =
           subst (λ v. StandsFor v (touches_at p (h ++ x ∷ []))) (sym (t tag ew e)) (subst (StandsFor (at e)) (there p apart) d)
 
@@ -137,13 +139,13 @@ warm_step touched_at e e' w ts i d tag h t s r =
     ∙ ap (warmed touched_at e) (sym (drop_more ts i d h)) ∙ r
 
 -- ---- look-ups
-pub found_hits : (order : Order) (sets ways : ℕ) (c : Rows) (tag er : ℕ) (h : List Touched) → IsCacheOf order sets ways c → StandsFor c h
-    → found c tag er ≡ hits order sets ways h er tag
-found_hits order sets ways c tag er h s stands =
-    found_is c s.cache tag er h stands
-    ∙ ap (λ o. hits o c.sets c.ways h er tag) s.same_order
-    ∙ ap (λ n. hits order n c.ways h er tag) s.same_sets
-    ∙ ap (λ n. hits order sets n h er tag) s.same_ways
+pub found_hits : (r : Replacement) (order : Order) (sets ways : ℕ) (c : Rows) (tag er : ℕ) (h : List Touched) → IsCacheOf order sets ways c
+    → StandsBy r c h → found c tag er ≡ hits_by r order sets ways h er tag
+found_hits r order sets ways c tag er h s stands =
+    found_is c s.cache r tag er h stands
+    ∙ ap (λ o. hits_by r o c.sets c.ways h er tag) s.same_order
+    ∙ ap (λ n. hits_by r order n c.ways h er tag) s.same_sets
+    ∙ ap (λ n. hits_by r order sets n h er tag) s.same_ways
 
 -- the touch of an access
 abbrev new : Place → ℕ → ℕ → Touch
@@ -153,21 +155,21 @@ new p a ew = record { place = p; label = record { number = ew }; address = a }
 page_found : (hw : Hardware) (order : Order) → ((l : ℕ) → home hw order l ≡ l) → (a er : ℕ) (e : PartEnv) (h : List Touch)
     → IsMadeFor part_structure order e → StandsForAll part_structure e h → found e.buffer (a / 1024) er ≡ hits_in hw order buffer_bank Page h er a
 page_found hw order own a er e h s stands =
-    found_hits order 1 4 e.buffer (a / 1024) er (touches_at Page h) (s.each Page) (stands.each Page)
+    found_hits LeastRecent order 1 4 e.buffer (a / 1024) er (touches_at Page h) (s.each Page) (stands.each Page)
     ∙ ap (λ t. hits order 1 4 t er (a / 1024)) (touches_are hw order buffer_bank Page own (λ n. refl) h)
     ∙ sym (ap (λ l. hits order 1 4 (touches_in hw order buffer_bank Page h) l (a / 1024)) (own er))
 
 code_found : (hw : Hardware) (order : Order) → ((l : ℕ) → home hw order l ≡ l) → (a er : ℕ) (e : PartEnv) (h : List Touch)
     → IsMadeFor part_structure order e → StandsForAll part_structure e h → found e.code_cache (a / 32) er ≡ hits_in hw order code_bank Code h er a
 code_found hw order own a er e h s stands =
-    found_hits order 8 2 e.code_cache (a / 32) er (touches_at Code h) (s.each Code) (stands.each Code)
+    found_hits LeastRecent order 8 2 e.code_cache (a / 32) er (touches_at Code h) (s.each Code) (stands.each Code)
     ∙ ap (λ t. hits order 8 2 t er (a / 32)) (touches_are hw order code_bank Code own (λ n. refl) h)
     ∙ sym (ap (λ l. hits order 8 2 (touches_in hw order code_bank Code h) l (a / 32)) (own er))
 
 data_found : (hw : Hardware) (order : Order) → ((l : ℕ) → home hw order l ≡ l) → (a er : ℕ) (e : PartEnv) (h : List Touch)
     → IsMadeFor part_structure order e → StandsForAll part_structure e h → found e.data_cache (a / 32) er ≡ hits_in hw order data_bank Data h er a
 data_found hw order own a er e h s stands =
-    found_hits order 8 2 e.data_cache (a / 32) er (touches_at Data h) (s.each Data) (stands.each Data)
+    found_hits LeastRecent order 8 2 e.data_cache (a / 32) er (touches_at Data h) (s.each Data) (stands.each Data)
     ∙ ap (λ t. hits order 8 2 t er (a / 32)) (touches_are hw order data_bank Data own (λ n. refl) h)
     ∙ sym (ap (λ l. hits order 8 2 (touches_in hw order data_bank Data h) l (a / 32)) (own er))
 
@@ -220,7 +222,7 @@ both_costs p p' false false s s' n m c e f g = omega (arith, ap (λ b. cond b 0 
 second_found : (order : Order) (a er : ℕ) (e : Part2Env) (h : List Touch) → IsMadeFor part2_structure order e → StandsForAll part2_structure e h
     → found e.second (a / 32) er ≡ hits_in part2_machine order second_bank Second h er a
 second_found order a er e h s stands =
-    found_hits order 32 4 e.second (a / 32) er (touches_at Second h) (s.each Second) (stands.each Second)
+    found_hits LeastRecent order 32 4 e.second (a / 32) er (touches_at Second h) (s.each Second) (stands.each Second)
     ∙ ap (λ t. hits order 32 4 t er (a / 32)) (touches_are part2_machine order second_bank Second (λ l. refl) (λ n. refl) h)
 
 pub part2_penalty_is : (order : Order) (k : Kind) (a er ew : ℕ) (e : Part2Env) (h : List Touch) → IsMadeFor part2_structure order e

@@ -6,7 +6,7 @@ use Rattle.std.proofs.lemmas.Bool.{cases_eq, eqb-true, eq-eqb}
 use Rattle.leak_bound.specs.Records.{Entry, Fits, FromOn, NeverFalls}
 use Rattle.sharp_count.specs.Lists.{NeverFalling, IsAmong}
 use Rattle.sharp_count.specs.Ways.{IsChoice, cycles_of, cycles_in}
-use Rattle.sharp_bound.proofs.Rank.{picked, is_at, Under, LevelsUnder}
+use Rattle.leak_bound.proofs.Counting.{picked, is_at, Under, LevelsUnder}
 
 -- the cycles of all entries, each with the first prediction of its level
 abbrev pub spent : (ℕ → ℕ) → List Entry → ℕ

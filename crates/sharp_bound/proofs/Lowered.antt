@@ -18,15 +18,13 @@ use Rattle.leak_bound.specs.Relevant.{is_relevant}
 use Rattle.leak_bound.specs.Sound.{bound, FirstBegins, most_ended}
 use Rattle.leak_bound.proofs.Few.{Each-map}
 use Rattle.leak_bound.proofs.Source.{relevant-same, begins_same, made_of}
-use Rattle.sharp_count.specs.Count.{sharp}
+use Rattle.leak_bound.specs.Rising.{sharp}
 use Rattle.sharp_bound.specs.Firsts.{PredictsNext, Predicts, PredictsBy, notes_to}
 use Rattle.sharp_bound.specs.Guess.{FewShown}
-use Rattle.sharp_bound.specs.Sharp.{relevant_at, BeginsEach, ends_by, FewHalted, FewCut, SharpSoundAll, SharpCutAll, SharpSound, SharpCut}
+use Rattle.sharp_bound.specs.Sharp.{relevant_at, BeginsEach, ends_by, FewHalted, FewCut, SharpSoundAll, SharpCutAll}
 use Rattle.sharp_bound.specs.End.{SharpEndAll}
 use Rattle.sharp_bound.specs.Shared.{StandApart, FewShared, SharpSharedAll}
-use Rattle.sharp_bound.specs.Twice.{LeavesAgree}
-use Rattle.sharp_bound.proofs.Many.{is_sharp_many}
-use Rattle.sharp_bound.specs.Lowered.{LoweredSharpAll, LoweredSharpCutAll, LoweredSharpEndAll, LoweredSharedAll, LoweredManyAll, LoweredLeavesAgree}
+use Rattle.sharp_bound.specs.Lowered.{LoweredSharpAll, LoweredSharpCutAll, LoweredSharpEndAll, LoweredSharedAll}
 
 module _ {M L M' L' : Type 0} (p : Todo M L) (q : Todo M' L') (e : commands_of p ≡ commands_of q) (lat : Lattice) (g ls : ℕ → ℕ) (o : ℕ) where
   predicts_same : (firsts : ℕ → ℕ) (m : List ℤ) (total : ℕ) → Predicts (is_relevant lat g ls o q) ls firsts q m total
@@ -131,14 +129,3 @@ module _ {E : Type 0} (v : Env E) (serves : Order → E → Type 0) where
         few = λ o low t some. few_shared_same v q.program.order (serves q.program.order) (labels_of q) (levels_of q) (lowered q).instrs (bare_of q)
             (plan_of q.program) (keep_commands q) o t _ (few o low t some);
       }
-
-  pub lowered_many : (X : Type 0) → SharpSoundAll v serves → SharpCutAll v serves → LoweredManyAll X v serves
-  lowered_many X all all_cut order q is =
-      is_sharp_many v order (λ i. labels_of (q i)) (λ i. levels_of (q i)) (λ i. (lowered (q i)).instrs) (λ i. plan_of (q i).program)
-      (λ i. subst (λ z. SharpSound v z (serves z) (labels_of (q i)) (levels_of (q i)) (lowered (q i)).instrs (plan_of (q i).program)) (is i).1
-      (lowered_sharp all (q i) (is i).0))
-      (λ i. subst (λ z. SharpCut v z (serves z) (labels_of (q i)) (levels_of (q i)) (lowered (q i)).instrs (plan_of (q i).program)) (is i).1
-      (lowered_cut all_cut (q i) (is i).0))
-
-  pub lowered_left : LeavesAgree v serves → LoweredLeavesAgree v serves
-  lowered_left all q is = all q.program.order (labels_of q) (levels_of q) (lowered q).instrs (bare_of q) (made_of q is)

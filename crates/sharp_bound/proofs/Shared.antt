@@ -9,41 +9,31 @@ use Rattle.label_lattice.specs.Lattice.{Lattice, Flows, IsLattice}
 use Rattle.timing_types.specs.Typing.{label_of}
 use Rattle.env_contract.specs.Env.{Env}
 use Rattle.env_contract.specs.Laws.{IsLawful}
-use Rattle.label_code.specs.Machine.{Core, Opened, Event, Wrote, Began, Ended, fetched, touched, written, closed}
+use Rattle.label_code.specs.Machine.{Core, Opened, Began, fetched, touched, written, closed}
 use Rattle.label_code.proofs.Upto.{upto}
 use Rattle.code_lower.specs.Layout.{expr_size, size, raised}
 use Rattle.code_lower.proofs.Timed.{timed_clock, tested_clock, reached_clock, tested, reached, begun, opening}
-use Rattle.leak_bound.specs.Relevant.{ended_count}
 use Rattle.leak_bound.specs.Records.{Entry}
+use Rattle.leak_bound.proofs.Counting.{picked}
+use Rattle.leak_bound.proofs.Headline.{none_ended}
+use Rattle.leak_bound.proofs.Marks.{low_count}
 use Rattle.leak_bound.proofs.Tells.{Tells}
 use Rattle.leak_bound.proofs.Runs.{Job, Do, Loop, Runs, done, skip, assign, put, sleep, if_true, if_false, while_none, while_some, mitigate, last, again, late}
 use Rattle.leak_bound.proofs.Low.{entry_of, record_of}
 use Rattle.leak_bound.proofs.Record.{grows_run}
 use Rattle.sharp_bound.specs.Shared.{NoneRelevant, StandApart}
-use Rattle.sharp_bound.proofs.Rank.{picked}
-use Rattle.sharp_bound.proofs.Picks.{TellsOf, low_count}
 use Rattle.sharp_bound.proofs.Firsts.{Bare, Here, After, tally, tested_tally, reached_tally, closed_tally, noted_in, wrote, began, mono, todo_of, TellsJob}
 use Rattle.sharp_bound.proofs.Firsts.{LevelsJob, doubled, goes_on, ends_after, from_same, from_skip, from_sleep, from_assign, from_put, from_if, from_while}
 use Rattle.sharp_bound.proofs.Firsts.{from_mitigate, tested_memory, reached_memory}
 use Rattle.sharp_bound.proofs.Choices.{spent, spent-append}
 
-none_ended : (es : List Event) → ended_count (λ k. false) es ≡ 0
-none_ended [] = refl
-none_ended (Wrote x n c ∷ es) = none_ended es
-none_ended (Began k c ∷ es) = none_ended es
-none_ended (Ended k c ∷ es) = omega (arith, none_ended es)
-
 no_entry : (r : List Entry) → picked (λ l. true) r ≡ 0 → r ≡ []
 no_entry [] e = refl
 no_entry (x ∷ r) e = absurd (omega (arith, e))
 
-and_true : (x : Bool) → x ≡ (x && true)
-and_true true = refl
-and_true false = refl
-
 module _ {E : Type 0} {serves : E → Type 0} (v : Env E) (lat : Lattice) (ll : IsLattice lat) (laws : IsLawful v lat serves) (g : ℕ → ℕ) (o lim : ℕ)
     (rel : ℕ → Bool) (ls firsts : ℕ → ℕ) (total : ℕ) where
-  none_tells : (pc : ℕ) (p : Marked) → Tells lat g o rel pc p → NoneRelevant rel (commands_of p) → TellsOf lat g o (λ l. true) (λ k. false) pc p
+  none_tells : (pc : ℕ) (p : Marked) → Tells lat g o rel pc p → NoneRelevant rel (commands_of p) → Tells lat g o (λ k. false) pc p
   none_tells pc Done t h = tt
   none_tells pc (Skip m r) t h = none_tells pc r t h
   none_tells pc (Assign m x e r) t h = none_tells pc r t h
@@ -52,15 +42,15 @@ module _ {E : Type 0} {serves : E → Type 0} (v : Env E) (lat : Lattice) (ll : 
   none_tells pc (If m e a b r) t h =
       (none_tells (lat.join pc (label_of lat g e)) a t.0 h.0, none_tells (lat.join pc (label_of lat g e)) b t.1 h.1, none_tells pc r t.2 h.2)
   none_tells pc (While m e c r) t h = (none_tells (lat.join pc (label_of lat g e)) c t.0 h.0, none_tells pc r t.1 h.1)
-  none_tells pc (Mitigate m k l e c r) t h =
-      (sym h.0 ∙ t.0 ∙ and_true (lat.flows pc o && not (lat.flows l o)), none_tells pc c t.1 h.1, none_tells pc r t.2 h.2)
+  none_tells pc (Mitigate m k l e c r) t h = (sym h.0 ∙ t.0, none_tells pc c t.1 h.1, none_tells pc r t.2 h.2)
 
   -- where no mitigate is relevant, the record has no entry
   pub none_record : {c : Marked} {a : ℕ} {s s' : Core E} (pc : ℕ) → Tells lat g o rel pc c → NoneRelevant rel (commands_of c) → Flows lat pc o
       → (d : Runs v lat g lim (Do c a) s s') → record_of v lat g o lim d ≡ []
   none_record {c = c} {s = s} {s' = s'} pc t h low d =
       let n = low_count v lat ll laws g o lim (λ l. true) (λ k. false) pc (none_tells pc c t h) low d in
-      no_entry (record_of v lat g o lim d) (omega (arith, n, none_ended (upto lim s.log), none_ended (upto lim s'.log)))
+      let none = none_ended (λ k. false) (λ k. refl) in
+      no_entry (record_of v lat g o lim d) (omega (arith, n, none (upto lim s.log), none (upto lim s'.log)))
 
   abbrev ApartJob : Job → Type 0
   ApartJob (Do p a) = StandApart rel (commands_of p)

@@ -1,10 +1,6 @@
 pub mod Guess
 pub mod Firsts
-pub mod Near
 pub mod Sharp
 pub mod Shared
 pub mod End
-pub mod Twice
-pub mod Sleeper
-pub mod Many
 pub mod Lowered

@@ -12,7 +12,7 @@ use Rattle.leak_bound.specs.Digits.{digits}
 use Rattle.leak_bound.specs.Relevant.{is_relevant}
 use Rattle.leak_bound.specs.Records.{Each, Pairwise, Tests}
 use Rattle.leak_bound.specs.Sound.{Agree, seen_from, Halts, bound, FirstBegins, most_ended, IsCompiled}
-use Rattle.sharp_count.specs.Count.{sharp}
+use Rattle.leak_bound.specs.Rising.{sharp}
 use Rattle.sharp_count.specs.Levels.{miss_counts}
 use Rattle.sharp_bound.specs.Firsts.{PredictsBy}
 use Rattle.sharp_bound.specs.Guess.{FewShown}

@@ -3,8 +3,8 @@ use Rattle.std.proofs.Common.{◌≡◌, ℕ, zero, suc, ◌+◌, ◌-◌, ◌*�
 use Rattle.std.proofs.Math.Nat.{mul-le-mul_right}
 use Rattle.std.proofs.lemmas.Bool.{cases_lt}
 use Rattle.std.proofs.lemmas.Nat.{div-add-mod', div-mul-add}
-use Rattle.sharp_count.specs.Count.{rising}
-use Rattle.sharp_count.proofs.Choose.{pascal, rising-none, rising-one}
+use Rattle.leak_bound.specs.Rising.{rising}
+use Rattle.leak_bound.proofs.Choose.{pascal, rising-none, rising-one}
 
 -- one value more, and one entry more
 record Grows (c k : ℕ) : Type 0 where

@@ -1,4 +1,3 @@
-pub mod Choose
 pub mod Growing
 pub mod Fitting
 pub mod Binary

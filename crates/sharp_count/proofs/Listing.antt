@@ -3,9 +3,9 @@ use Rattle.std.proofs.Common.{◌≡◌, ℕ, zero, suc, ◌+◌, List, [], ◌�
 use Rattle.std.proofs.lemmas.Bool.{cases_eq}
 use Rattle.leak_bound.specs.Records.{Each}
 use Rattle.leak_bound.proofs.Few.{Each-map, Each-append}
-use Rattle.sharp_count.specs.Count.{rising}
+use Rattle.leak_bound.specs.Rising.{rising}
 use Rattle.sharp_count.specs.Lists.{NeverFalling, IsAmong, AllDiffer, RisingCounts}
-use Rattle.sharp_count.proofs.Choose.{pascal, rising-none, rising-zero}
+use Rattle.leak_bound.proofs.Choose.{pascal, rising-none, rising-zero}
 
 abbrev pub cons_all : ℕ → List (List ℕ) → List (List ℕ)
 cons_all m [] = []

@@ -6,7 +6,7 @@ use Rattle.std.proofs.lemmas.Bool.{leb-true, le-leb, cases_eq}
 use Rattle.std.proofs.lemmas.Nat.{mul-le}
 use Rattle.leak_bound.specs.Records.{Each}
 use Rattle.leak_bound.proofs.Few.{Each-map, Each-both, Each-pass, Each-filter}
-use Rattle.sharp_count.specs.Count.{rising, sharp}
+use Rattle.leak_bound.specs.Rising.{rising, sharp}
 use Rattle.sharp_count.specs.Levels.{miss_counts}
 use Rattle.sharp_count.specs.Lists.{NeverFalling, IsAmong, AllDiffer}
 use Rattle.sharp_count.specs.Shares.{shares}

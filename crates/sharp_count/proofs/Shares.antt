@@ -12,13 +12,13 @@ use Rattle.leak_bound.specs.Records.{Each}
 use Rattle.leak_bound.specs.Digits.{digits}
 use Rattle.leak_bound.proofs.Digits.{digits_is, digits_of}
 use Rattle.leak_bound.proofs.Few.{Each-map}
-use Rattle.sharp_count.specs.Count.{choose, rising}
+use Rattle.leak_bound.specs.Rising.{choose, rising}
 use Rattle.sharp_count.specs.Levels.{miss_counts}
 use Rattle.sharp_count.specs.Lists.{NeverFalling}
 use Rattle.sharp_count.specs.Shares.{shares}
 use Rattle.sharp_count.specs.Ways.{IsChoice, cycles_of, cycles_in, AreWays}
 use Rattle.sharp_count.proofs.Alike.{same_length}
-use Rattle.sharp_count.proofs.Choose.{pascal, rising-none, one-rising}
+use Rattle.leak_bound.proofs.Choose.{pascal, rising-none, one-rising}
 use Rattle.sharp_count.proofs.Listing.{cons_all, listing, length-listing, each_falls}
 use Rattle.sharp_count.proofs.Ways.{ways, are_ways, length-one_level}
 

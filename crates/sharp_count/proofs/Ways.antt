@@ -7,7 +7,7 @@ use Rattle.std.proofs.lemmas.Bool.{leb-true, le-leb}
 use Rattle.std.proofs.lemmas.List.Sums.{length-filter, count_by-le-length}
 use Rattle.leak_bound.specs.Records.{Each}
 use Rattle.leak_bound.proofs.Few.{Each-map, Each-append, Each-pass, Each-filter}
-use Rattle.sharp_count.specs.Count.{rising, sharp}
+use Rattle.leak_bound.specs.Rising.{rising, sharp}
 use Rattle.sharp_count.specs.Levels.{miss_counts}
 use Rattle.sharp_count.specs.Lists.{NeverFalling, IsAmong, AllDiffer}
 use Rattle.sharp_count.specs.Ways.{IsChoice, cycles_of, cycles_in, AreWays, WaysAreFew}

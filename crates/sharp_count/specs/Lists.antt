@@ -1,7 +1,7 @@
 -- What `rising` counts.
 use Rattle.std.specs.Prelude.{◌≡◌, ℕ, zero, suc, ◌<◌, ◌≤◌, List, [], ◌∷◌, length, ◌⊎◌}
 use Rattle.leak_bound.specs.Records.{Each}
-use Rattle.sharp_count.specs.Count.{rising}
+use Rattle.leak_bound.specs.Rising.{rising}
 
 -- k numbers from m on, below b, that never fall
 abbrev pub NeverFalling : ℕ → ℕ → ℕ → List ℕ → Type 0

@@ -1,7 +1,7 @@
 -- The count by shared time: level by level, how many lists of miss counts fit into T together.
 use Rattle.std.specs.Prelude.{ℕ, zero, suc, ◌≡◌, ◌*◌, ◌/◌, ◌≤◌, max, leb, cond, List, length}
 use Rattle.sharp_count.specs.declared.count.LevelRuns.{LevelRuns}
-use Rattle.sharp_count.specs.Count.{rising, sharp}
+use Rattle.leak_bound.specs.Rising.{rising, sharp}
 use Rattle.sharp_count.specs.Levels.{miss_counts, counts_of, firsts_of}
 use Rattle.sharp_count.specs.Shares.{shares}
 use Rattle.sharp_count.specs.Ways.{AreWays}

@@ -1,7 +1,7 @@
 -- The ways in which mitigations can end whose cycles add up.
 use Rattle.std.specs.Prelude.{ℕ, zero, suc, ◌≡◌, ◌+◌, ◌*◌, ◌^◌, ◌≤◌, max, List, [], ◌∷◌, length}
 use Rattle.leak_bound.specs.Records.{Each}
-use Rattle.sharp_count.specs.Count.{sharp}
+use Rattle.leak_bound.specs.Rising.{sharp}
 use Rattle.sharp_count.specs.Levels.{miss_counts}
 use Rattle.sharp_count.specs.Lists.{NeverFalling, IsAmong, AllDiffer}
 

@@ -1,7 +1,8 @@
 //! The sharp count.
 
 ghost use Rattle.std.specs.Prelude.{◌≡◌, ◌*◌, ◌<◌, ◌≤◌, ℕ, length, slice_index, EachIndex, SomeIndex};
-ghost use Rattle.sharp_count.specs.Count.{sharp, fitting};
+ghost use Rattle.leak_bound.specs.Rising.{sharp};
+ghost use Rattle.sharp_count.specs.Count.{fitting};
 ghost use Rattle.sharp_count.specs.Levels.{miss_counts, values_by, counts_of, values_of};
 
 use crate::lists::never_falling;

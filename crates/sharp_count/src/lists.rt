@@ -1,7 +1,8 @@
 //! How many lists of numbers never fall.
 
 ghost use Rattle.std.specs.Prelude.{◌≡◌, ◌+◌, ◌<◌};
-ghost use Rattle.sharp_count.specs.Count.{rising, fitting};
+ghost use Rattle.leak_bound.specs.Rising.{rising};
+ghost use Rattle.sharp_count.specs.Count.{fitting};
 
 /// The number for one value more, from that for these values.
 fn with_one_more(lists: u128, values: u32, entries: u64) -> Option<u128>

@@ -2,7 +2,7 @@
 
 ghost use Rattle.std.specs.Prelude.{ℕ, ◌≡◌, ◌-◌, ◌/◌, ◌<◌, ◌≤◌, List, length, Some, None, IfOk, IfSome};
 ghost use Rattle.leak_bound.specs.Digits.{digits};
-ghost use Rattle.sharp_count.specs.Count.{rising};
+ghost use Rattle.leak_bound.specs.Rising.{rising};
 ghost use Rattle.sharp_count.specs.Levels.{miss_counts};
 ghost use Rattle.sharp_count.specs.Shares.{shares, IsRow, IsTable};
 ghost use Rattle.sharp_count.specs.Ways.{AreWays};

@@ -1,6 +1,5 @@
 pub mod Ascii
 pub mod Lists
 pub mod Filling
-pub mod Touching
 pub mod Reading
 pub mod OneSpace

@@ -11,7 +11,7 @@ use Rattle.space_file.specs.Files.{values_in}
 use Rattle.space_starts.specs.Space.{SpaceValue, IsValues, IsSpaceFor, size_of, apart}
 use Rattle.space_file.proofs.Filling.{length_values_in}
 use Rattle.space_file.proofs.Lists.{each_once}
-use Rattle.space_file.proofs.Touching.{all_below}
+use Rattle.start_file.proofs.ForProgram.{all_below}
 
 pub is_for : (p : Syntax) → IsOrder p.order → (s z : SpaceValue) (m t : Option Data) → values_in p m ≡ Some z.memory → All IsValues z.memory
     → list_all apart z.memory ≡ true → touches_in Two p.order t ≡ Some z.touches → s ≡ z → size_of s ≤ 2 ^ 40 → IsSpaceFor p s

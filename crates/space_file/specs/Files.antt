@@ -1,24 +1,19 @@
 -- The space that a file gives for a program, or the first refusal.
-use Rattle.std.specs.Prelude.{◌≡◌, ℕ, pos, ◌||◌, ◌&&◌, nat_le, ◌^◌, if◌then◌else◌, Bool, true, false, List, [], ◌∷◌, Option, None, Some, Result, Ok, Err, codes}
+use Rattle.std.specs.Prelude.{◌≡◌, ℕ, ◌||◌, ◌&&◌, nat_le, ◌^◌, if◌then◌else◌, Bool, List, [], ◌∷◌, Option, None, Some, Result, Ok, Err, codes}
 use Rattle.std.specs.List.{list_all}
-use Rattle.std.specs.Ordering.{int_eq}
 use Rattle.std.specs.Str.{bytes_eq}
-use Rattle.toml.specs.Data.{Data, Members, no_members, get_member, integer, table}
+use Rattle.toml.specs.Data.{Data, Members, no_members, get_member, table}
 use Rattle.env_contract.specs.declared.place.Touch.{Touch}
 use Rattle.mit_syntax.specs.Program.{Syntax}
 use Rattle.start_file.specs.declared.version.Version.TheVariants.{Two}
 use Rattle.start_file.specs.Tables.{keys_pass}
+use Rattle.start_file.specs.Versions.{is_three}
 use Rattle.start_file.specs.Touches.{touches_in}
 use Rattle.start_file.specs.Starts.{IsDocument}
 use Rattle.space_file.specs.declared.fault.SpaceFault.{SpaceFault}
 use Rattle.space_file.specs.declared.fault.SpaceFault.TheVariants.{NotToml, Version, UnknownKey, NoSpace, NotRange, ValueTwice, BadTouch, TooMany}
 use Rattle.space_starts.specs.Space.{SpaceValue, size_of, apart}
 use Rattle.space_file.specs.Ranges.{Values, names_pass, memory_of}
-
--- version 3
-abbrev pub is_three : Option Data → Bool
-is_three (Some (integer z)) = int_eq z (pos 3)
-is_three _ = false
 
 abbrev pub is_top_key : List ℕ → Bool
 is_top_key w = bytes_eq w (codes "space") || bytes_eq w (codes "version")

@@ -10,9 +10,9 @@ ghost use Rattle.start_file.specs.Tables.{data_of, keys_pass};
 ghost use Rattle.space_file.specs.Ranges.{names_pass};
 ghost use Rattle.space_file.specs.Files.{is_top_key, is_space_key, space_keys_pass};
 
-use crate::table::at;
 use label_lattice::name::Name;
 use mit_syntax::program::Program;
+use start_file::table::at;
 use toml::{Table, Value};
 
 fn is_top_key(key: &str) -> bool

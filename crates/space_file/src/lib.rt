@@ -7,5 +7,3 @@ mod keys;
 mod list;
 mod memory;
 pub mod read;
-mod table;
-mod touch;

@@ -11,10 +11,10 @@ ghost use Rattle.space_file.specs.Files.{values_in};
 
 use crate::fault::SpaceFault;
 use crate::list::{list, one};
-use crate::table::at;
 use label_lattice::name::Name;
 use mit_syntax::program::Program;
 use space_starts::space::Interval;
+use start_file::table::at;
 use std::alloc::{AllocError, Global};
 use toml::{Table, Value};
 

@@ -4,19 +4,24 @@ ghost use Rattle.std.specs.Prelude.{◌≡◌, ◌≢◌, ◌≤◌, ◌^◌, Al
 ghost use Rattle.toml.specs.View.{view, table_view};
 ghost use Rattle.mit_syntax.specs.Valid.{IsValid};
 ghost use Rattle.start_file.specs.Tables.{data_of};
+ghost use Rattle.start_file.specs.declared.version.Version.TheVariants.{Two};
+ghost use Rattle.start_file.specs.Touches.{touches_in};
 ghost use Rattle.start_file.specs.Starts.{IsDocument};
 ghost use Rattle.std.specs.List.{list_all};
 ghost use Rattle.space_starts.specs.Space.{lists, apart, seen, size_of, IsValues, IsSpaceFor};
-ghost use Rattle.space_file.specs.Files.{is_three, space_in, space_of, document_space, counted, GivesSpace};
+ghost use Rattle.space_file.specs.Files.{space_in, space_of, document_space, counted, GivesSpace};
 
 use crate::fault::SpaceFault;
 use crate::keys::{has_top_keys, space_keys_pass};
 use crate::memory::values;
-use crate::table::at;
-use crate::touch::touches;
+use env_contract::place::Touch;
 use mit_syntax::program::Program;
 use space_starts::apart::are_apart;
 use space_starts::space::{Interval, Space};
+use start_file::fault::StartFault;
+use start_file::table::at;
+use start_file::touch;
+use start_file::version::{Version, is_three};
 use std::alloc::{AllocError, Global};
 use toml::{Table, Value};
 
@@ -36,16 +41,20 @@ fn document(alloc: Global, bytes: &[u8]) -> Result<Table, SpaceFault>
     }
 }
 
-// Whether a version is 3.
-fn is_three(version: Option<&Value>) -> bool
-    ensures { result ≡ is_three (data_of version.entry) }
+// The touches of all starts, the earliest first.
+fn touches(
+    alloc: Global,
+    program: &Program,
+    touch: Option<&Value>,
+) -> Result<Vec<Touch>, SpaceFault>
+    ensures ok { IfOk result (λ ts. touches_in Two program.now.order (data_of touch.entry) ≡ Some ts.items) }
+    ensures fault { IfErr result (λ e. e ≢ SpaceFault.Memory → e ≡ SpaceFault.BadTouch) }
+    ensures refused { IfErr result (λ e. e ≢ SpaceFault.Memory → touches_in Two program.now.order (data_of touch.entry) ≡ None) }
 {
-    let Some(value) = version else {
-        return false;
-    };
-    match value {
-        Value::Integer(number) => *number == 3,
-        _ => false,
+    match touch::touches(alloc, program, Version::Two, 0, touch) {
+        Ok(touches) => Ok(touches),
+        Err(StartFault::Memory) => Err(SpaceFault::Memory),
+        Err(_) => Err(SpaceFault::BadTouch),
     }
 }
 

@@ -2,3 +2,4 @@ pub mod Stops
 pub mod Once
 pub mod Listing
 pub mod Written
+pub mod Counts

@@ -1,11 +1,11 @@
 -- A start file gives one thing.
-use Rattle.std.proofs.Common.{◌≡◌, ◌∙◌, ◌⊎◌, ◌≤◌, refl, sym, ap, subst, ℕ, List, length, Option, Result, Ok, Err, inl, inr}
-use Rattle.tim_base.specs.Told.{IsTold, IsTooLong}
+use Rattle.std.proofs.Common.{◌≡◌, ◌∙◌, sym, ap, subst, ℕ, List, Option, Result, Ok, Err, inl, inr}
+use Rattle.tim_base.specs.Told.{IsTooLong}
 use Rattle.mit_syntax.specs.Program.{Syntax}
-use Rattle.start_file.specs.declared.fault.StartFault.{StartFault}
 use Rattle.start_file.specs.declared.fault.StartFault.TheVariants as start
-use Rattle.start_file.specs.Starts.{StartValue, Gives}
-use Rattle.start_file.proofs.OneAnswer.{one_answer}
+use Rattle.start_file.specs.Starts.{StartValue}
+use Rattle.start_file.specs.Shared.{GivesList}
+use Rattle.start_file.proofs.OneAnswer.{one_list_answer}
 use Rattle.space_file.specs.declared.fault.SpaceFault.{SpaceFault}
 use Rattle.space_file.specs.Files.{GivesSpace}
 use Rattle.space_file.proofs.OneSpace.{one_space_answer}
@@ -14,11 +14,10 @@ use Rattle.tool_texts.specs.declared.status.Status.{Status}
 use Rattle.tool_texts.specs.declared.status.Status.TheVariants as status
 use Rattle.tool_texts.specs.Texts.{start_fault_line, starts}
 use Rattle.tool_stages.specs.Content.{IsKnown}
-use Rattle.tool_stages.specs.Stages.{StartsAre, HasStartFault}
 use Rattle.tool_stages.proofs.GoesLemmas.{one_told, not_long}
-use Rattle.tool_stages.proofs.OneLemmas.{Same, one_list_of_starts}
+use Rattle.tool_stages.proofs.OneLemmas.{Same}
 use Rattle.tool_stages.proofs.StageStops.{FileBreaks, file_goes}
-use Rattle.space_stage.specs.Given.{IsReadAs, SpaceIs, HasListFault, HasSpaceFault, GivenStops, GivenValue, GivenIs}
+use Rattle.space_stage.specs.Given.{ListIs, IsReadAs, SpaceIs, HasListFault, GivenStops, GivenValue, GivenIs}
 use Rattle.space_stage.specs.Lines.{space_fault_line}
 use Rattle.space_stage.proofs.Stops.{Faulty, given_breaks}
 
@@ -30,38 +29,38 @@ module _ (c : Option (Option (List ℕ))) (known : IsKnown c) (p : Syntax) where
       one_space_answer p h.bytes r s (subst (λ (z : List ℕ). GivesSpace p z r) bytes g.gives) h.gives
 
   -- and no list
-  no_list : (r : Result SpaceValue SpaceFault) (ss : List StartValue) → IsReadAs c p r → StartsAre c p ss → ⊥
+  no_list : (r : Result SpaceValue SpaceFault) (ss : List StartValue) → IsReadAs c p r → ListIs c p ss → ⊥
   no_list r ss g h =
       let bytes : g.bytes ≡ h.0 = one_told c g.bytes h.0 known g.are h.1 in
       let same : Err start.Version ≡ Ok ss =
-      one_answer p h.0 (Err start.Version) (Ok ss) (subst (λ (z : List ℕ). Gives p z (Err start.Version)) bytes g.version) h.3 in
+      one_list_answer p h.0 (Err start.Version) (Ok ss) (subst (λ (z : List ℕ). GivesList p z (Err start.Version)) bytes g.version) h.3 in
       absurd cc
 
   no_list_fault : (r : Result SpaceValue SpaceFault) (t : List ℕ) → IsReadAs c p r → HasListFault c p t → ⊥
-  no_list_fault r t g (h, not) =
+  no_list_fault r t g h =
       let bytes : g.bytes ≡ h.bytes = one_told c g.bytes h.bytes known g.are h.are in
       let same : Err start.Version ≡ Err h.fault =
-      one_answer p h.bytes (Err start.Version) (Err h.fault) (subst (λ (z : List ℕ). Gives p z (Err start.Version)) bytes g.version) h.is in
+      one_list_answer p h.bytes (Err start.Version) (Err h.fault) (subst (λ (z : List ℕ). GivesList p z (Err start.Version)) bytes g.version) h.is in
       let fault : h.fault ≡ start.Version = cc in
-      not fault
+      h.version fault
 
-  list_or_fault : (ss : List StartValue) (t : List ℕ) → StartsAre c p ss → HasListFault c p t → ⊥
-  list_or_fault ss t g (h, not) =
+  list_or_fault : (ss : List StartValue) (t : List ℕ) → ListIs c p ss → HasListFault c p t → ⊥
+  list_or_fault ss t g h =
       let bytes : g.0 ≡ h.bytes = one_told c g.0 h.bytes known g.1 h.are in
       let same : Ok ss ≡ Err h.fault =
-      one_answer p h.bytes (Ok ss) (Err h.fault) (subst (λ (z : List ℕ). Gives p z (Ok ss)) bytes g.3) h.is in
+      one_list_answer p h.bytes (Ok ss) (Err h.fault) (subst (λ (z : List ℕ). GivesList p z (Ok ss)) bytes g.3) h.is in
       absurd cc
 
-  one_list_fault : (t x : List ℕ) → HasStartFault c p t → HasStartFault c p x → t ≡ x
+  one_list_fault : (t x : List ℕ) → HasListFault c p t → HasListFault c p x → t ≡ x
   one_list_fault t x f g =
       let bytes : f.bytes ≡ g.bytes = one_told c f.bytes g.bytes known f.are g.are in
       let same : Err f.fault ≡ Err g.fault =
-      one_answer p g.bytes (Err f.fault) (Err g.fault) (subst (λ (z : List ℕ). Gives p z (Err f.fault)) bytes f.is) g.is in
+      one_list_answer p g.bytes (Err f.fault) (Err g.fault) (subst (λ (z : List ℕ). GivesList p z (Err f.fault)) bytes f.is) g.is in
       let fault : f.fault ≡ g.fault = cc in
       f.line ∙ ap start_fault_line fault ∙ sym g.line
 
   one_fault : (t x : List ℕ) → Faulty c p t → Faulty c p x → t ≡ x
-  one_fault t x (inl f) (inl g) = one_list_fault t x f.0 g.0
+  one_fault t x (inl f) (inl g) = one_list_fault t x f g
   one_fault t x (inl f) (inr g) = absurd (no_list_fault (Err g.0) t g.2 f)
   one_fault t x (inr f) (inl g) = absurd (no_list_fault (Err f.0) x f.2 g)
   one_fault t x (inr f) (inr g) =
@@ -70,7 +69,7 @@ module _ (c : Option (Option (List ℕ))) (known : IsKnown c) (p : Syntax) where
       f.3 ∙ ap space_fault_line fault ∙ sym g.3
 
   fault_not_long : (t : List ℕ) → Faulty c p t → IsTooLong c → ⊥
-  fault_not_long t (inl f) l = not_long c f.0.bytes known f.0.are f.0.short l
+  fault_not_long t (inl f) l = not_long c f.bytes known f.are f.short l
   fault_not_long t (inr f) l = not_long c f.2.bytes known f.2.are f.2.short l
 
   by_stop : (R : Type 0) (s u : Status) (t x : List ℕ) → (R → ⊥) → FileBreaks R starts c (Faulty c p) status.Starts s t
@@ -98,9 +97,15 @@ module _ (c : Option (Option (List ℕ))) (known : IsKnown c) (p : Syntax) where
   given_not_long (inl ss) g = not_long c g.0 known g.1 g.2
   given_not_long (inr s) g = not_long c g.bytes known g.are g.short
 
+  one_list : (ss rs : List StartValue) → ListIs c p ss → ListIs c p rs → ss ≡ rs
+  one_list ss rs g h =
+      let bytes : g.0 ≡ h.0 = one_told c g.0 h.0 known g.1 h.1 in
+      let same : Ok ss ≡ Ok rs = one_list_answer p h.0 (Ok ss) (Ok rs) (subst (λ (z : List ℕ). GivesList p z (Ok ss)) bytes g.3) h.3 in
+      cc
+
   -- what is given is one thing
   pub one_given : (a b : GivenValue) → GivenIs c p a → GivenIs c p b → a ≡ b
-  one_given (inl ss) (inl rs) g h = ap (λ (z : List StartValue). inl z) (one_list_of_starts c known p ss rs g h)
+  one_given (inl ss) (inl rs) g h = ap (λ (z : List StartValue). inl z) (one_list ss rs g h)
   one_given (inl ss) (inr s) g h = absurd (no_list (Ok s) ss h g)
   one_given (inr s) (inl ss) g h = absurd (no_list (Ok s) ss g h)
   one_given (inr r) (inr s) g h = ap (λ (z : SpaceValue). inr z) (one_space r s g h)

@@ -1,5 +1,5 @@
 -- What stops the stage.
-use Rattle.std.proofs.Common.{◌≡◌, ◌⊎◌, ℕ, List, Option, inl, inr, refl}
+use Rattle.std.proofs.Common.{◌⊎◌, ℕ, List, Option, inl, inr, refl}
 use Rattle.mit_syntax.specs.Program.{Syntax}
 use Rattle.tool_texts.specs.declared.status.Status.{Status}
 use Rattle.tool_texts.specs.declared.status.Status.TheVariants as status

@@ -6,9 +6,9 @@ use Rattle.start_file.specs.Starts.{StartValue, IsFor}
 use Rattle.start_space.specs.Space.{size, nth}
 use Rattle.space_starts.specs.declared.space.Interval.{Interval}
 use Rattle.space_starts.specs.Space.{SpaceValue, many, counts, chosen, size_of, start_at, starts_from, IsValues, IsSpaceFor}
-use Rattle.tool_stages.proofs.StartLemmas.{count_given}
 use Rattle.space_stage.specs.Given.{GivenValue, GivenIs, IsFitting}
 use Rattle.space_stage.specs.Listed.{WritesOut, AreFitting}
+use Rattle.space_stage.proofs.Counts.{count_list}
 
 -- ---- one start more
 
@@ -69,7 +69,7 @@ module _ (p : Syntax) (s : SpaceValue) (h : IsSpaceFor p s) where
 pub fits : (content : Option (Option (List ℕ))) (p : Syntax) (g : GivenValue) (ss : List StartValue) → GivenIs content p g → IsFitting p g → WritesOut g ss
     → AreFitting p ss
 fits content p (inl rs) ss g f h =
-    let n = count_given content p rs g in
+    let n = count_list content p rs g in
     subst (λ (z : List StartValue). AreFitting p z) (sym h) (record { some = n.0; few = n.1; starts = f })
 fits content p (inr s) ss g f h =
     let n : length ss ≡ size_of s = ap length h.1 ∙ long s 0 (size_of s) in

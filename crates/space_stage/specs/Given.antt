@@ -4,34 +4,46 @@ use Rattle.std.proofs.Common.{inl, inr}
 use Rattle.tim_base.specs.Told.{limit, IsTold, IsTooLong}
 use Rattle.mit_syntax.specs.Program.{Syntax}
 use Rattle.start_file.specs.declared.fault.StartFault.TheVariants as start
-use Rattle.start_file.specs.Starts.{StartValue, Gives, IsFor, seen}
+use Rattle.start_file.specs.declared.fault.StartFault.{StartFault}
+use Rattle.start_file.specs.Starts.{StartValue, IsFor, seen}
+use Rattle.start_file.specs.Shared.{GivesList}
 use Rattle.space_file.specs.declared.fault.SpaceFault.{SpaceFault}
 use Rattle.space_file.specs.declared.fault.SpaceFault.TheVariants as space
 use Rattle.space_file.specs.Files.{GivesSpace}
 use Rattle.space_starts.specs.Space.{SpaceValue, IsSpaceFor, seen as seen_space}
 use Rattle.tool_texts.specs.declared.status.Status.{Status}
 use Rattle.tool_texts.specs.declared.status.Status.TheVariants as status
-use Rattle.tool_texts.specs.Texts.{starts, read_fault_line, too_long_line}
-use Rattle.tool_stages.specs.Stages.{StartsAre, HasStartFault}
+use Rattle.tool_texts.specs.Texts.{starts, start_fault_line, read_fault_line, too_long_line}
 use Rattle.space_stage.specs.declared.given.StartSet.{StartSet}
 use Rattle.space_stage.specs.declared.given.StartSet.TheVariants.{List as Listed, Space}
 use Rattle.space_stage.specs.Lines.{space_fault_line}
+
+-- the list of starts that a file of any version gives
+abbrev pub ListIs : Option (Option (List ℕ)) → Syntax → List StartValue → Type 0
+ListIs content p ss = (bytes : List ℕ) × IsTold content bytes × (length bytes ≤ limit) × GivesList p bytes (Ok ss)
+
+-- the file is refused as a list of starts, and not for its version
+pub record HasListFault (content : Option (Option (List ℕ))) (p : Syntax) (t : List ℕ) : Type 0 where
+  pub bytes : List ℕ
+  pub are : IsTold content bytes
+  pub short : length bytes ≤ limit
+  pub fault : StartFault
+  pub none : fault ≢ start.Memory
+  pub version : fault ≢ start.Version
+  pub is : GivesList p bytes (Err fault)
+  pub line : t ≡ start_fault_line fault
 
 -- A file whose version is none of a list of starts is read as one of a space.
 pub record IsReadAs (content : Option (Option (List ℕ))) (p : Syntax) (r : Result SpaceValue SpaceFault) : Type 0 where
   pub bytes : List ℕ
   pub are : IsTold content bytes
   pub short : length bytes ≤ limit
-  pub version : Gives p bytes (Err start.Version)
+  pub version : GivesList p bytes (Err start.Version)
   pub gives : GivesSpace p bytes r
 
 -- the space that a file gives
 abbrev pub SpaceIs : Option (Option (List ℕ)) → Syntax → SpaceValue → Type 0
 SpaceIs content p s = IsReadAs content p (Ok s)
-
--- the file is refused as a list of starts, and not for its version
-abbrev pub HasListFault : Option (Option (List ℕ)) → Syntax → List ℕ → Type 0
-HasListFault content p t = (h : HasStartFault content p t) × (h.fault ≢ start.Version)
 
 -- the file is refused as a space
 abbrev pub HasSpaceFault : Option (Option (List ℕ)) → Syntax → List ℕ → Type 0
@@ -48,7 +60,7 @@ abbrev pub GivenValue : Type 0
 GivenValue = List StartValue ⊎ SpaceValue
 
 abbrev pub GivenIs : Option (Option (List ℕ)) → Syntax → GivenValue → Type 0
-GivenIs content p (inl ss) = StartsAre content p ss
+GivenIs content p (inl ss) = ListIs content p ss
 GivenIs content p (inr s) = SpaceIs content p s
 
 -- it is for a program

@@ -6,7 +6,7 @@ ghost use Rattle.tim_base.specs.Faults.{Rose};
 ghost use Rattle.tim_base.specs.Told.{limit, IsTold};
 ghost use Rattle.mit_syntax.specs.Program.{Syntax};
 ghost use Rattle.start_file.specs.declared.fault.StartFault.TheVariants as start;
-ghost use Rattle.start_file.specs.Starts.{Gives};
+ghost use Rattle.start_file.specs.Shared.{GivesList};
 ghost use Rattle.space_file.specs.declared.fault.SpaceFault.TheVariants as refused;
 ghost use Rattle.space_file.specs.Files.{GivesSpace};
 ghost use Rattle.tool_texts.specs.Ends.{IsStop};
@@ -19,8 +19,8 @@ use space_file::fault::SpaceFault;
 use space_file::read::read_space;
 use space_starts::space::Space;
 use start_file::fault::StartFault;
+use start_file::shared::read_list;
 use start_file::start::Start;
-use start_file::starts::read_starts;
 use std::alloc::Global;
 use tim_base::shelf::Shelf;
 use tool_stages::file::bytes_of;
@@ -39,7 +39,7 @@ pub enum StartSet {
 fn start_stop(fault: StartFault) -> Stop
     requires { fault ≢ start.Version }
     ensures { (content : Option (Option (List ℕ))) (bytes : List ℕ) (p : Syntax) → IsTold content bytes → length bytes ≤ limit
-        → (fault ≢ start.Memory → Gives p bytes (Err fault)) → IsStop (GivenStops ⊥ content p) result }
+        → (fault ≢ start.Memory → GivesList p bytes (Err fault)) → IsStop (GivenStops ⊥ content p) result }
 {
     match fault {
         StartFault::Memory => no_memory(),
@@ -53,7 +53,7 @@ fn start_stop(fault: StartFault) -> Stop
 // The stop for bytes that are no space.
 fn space_stop(fault: SpaceFault) -> Stop
     ensures { (content : Option (Option (List ℕ))) (bytes : List ℕ) (p : Syntax) → IsTold content bytes → length bytes ≤ limit
-        → Gives p bytes (Err start.Version) → (fault ≢ refused.Memory → GivesSpace p bytes (Err fault)) → IsStop (GivenStops ⊥ content p) result }
+        → GivesList p bytes (Err start.Version) → (fault ≢ refused.Memory → GivesSpace p bytes (Err fault)) → IsStop (GivenStops ⊥ content p) result }
 {
     match fault {
         SpaceFault::Memory => no_memory(),
@@ -67,7 +67,7 @@ fn space_stop(fault: SpaceFault) -> Stop
 // The space that bytes give whose version is none of a list of starts.
 fn space_of(alloc: Global, bytes: &[u8], p: &Program) -> Result<StartSet, Stop>
     requires short { length bytes.now ≤ limit }
-    requires version { Gives p.now bytes.now (Err start.Version) }
+    requires version { GivesList p.now bytes.now (Err start.Version) }
     ensures ok { IfOk result (λ g. (content : Option (Option (List ℕ))) → IsTold content bytes.now → GivenIs content p.now (value_of g)) }
     ensures valid { IfOk result (λ g. IsFitting p.now (value_of g)) }
     ensures stop { IfErr result (λ e. (content : Option (Option (List ℕ))) → IsTold content bytes.now → IsStop (GivenStops ⊥ content p.now) e) }
@@ -85,7 +85,7 @@ fn given_of(alloc: Global, bytes: &[u8], p: &Program) -> Result<StartSet, Stop>
     ensures valid { IfOk result (λ g. IsFitting p.now (value_of g)) }
     ensures stop { IfErr result (λ e. (content : Option (Option (List ℕ))) → IsTold content bytes.now → IsStop (GivenStops ⊥ content p.now) e) }
 {
-    match read_starts(alloc, bytes, p) {
+    match read_list(alloc, bytes, p) {
         Ok(starts) => Ok(StartSet::List(starts)),
         Err(fault) => match fault {
             StartFault::Version => space_of(alloc, bytes, p),

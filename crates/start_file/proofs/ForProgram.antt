@@ -22,6 +22,8 @@ use Rattle.start_file.specs.Values.{memory_passes, memory_of}
 use Rattle.start_file.specs.Touches.{is_touch_key, place_of, label_of, address_of, touch_from, touch_of, touches_of, touches_in}
 use Rattle.start_file.specs.Starts.{StartValue, IsFor, is_top_key, run_keys_pass, with_touches, run_in, run_of, with_first, runs_from, counted_runs, runs_of}
 use Rattle.start_file.specs.Starts.{versioned, starts_in}
+use Rattle.start_file.specs.declared.version.Version.TheVariants.{Two}
+use Rattle.start_file.specs.Shared.{filled_runs, list_keys_pass, shared_in, has_shared, list_in}
 use Rattle.start_file.proofs.Written.{length-memory_of}
 
 module _ (o : Order) (h : IsOrder o) where
@@ -81,7 +83,7 @@ module _ (o : Order) (h : IsOrder o) where
       by more (Some t) None f g k = absurd (none-some ts k)
       by more (Some t) (Some us) f g k = subst (All Below) (same_Some (t ∷ us) ts k) (All-cons Below t us (touch_below v d t f) (more us g))
 
-  all_below : (v : Version) (f : Option Data) (ts : List Touch) → touches_in v o f ≡ Some ts → All Below ts
+  pub all_below : (v : Version) (f : Option Data) (ts : List Touch) → touches_in v o f ≡ Some ts → All Below ts
   all_below v None ts e = subst (All Below) (same_Some [] ts e) (All-nil Below)
   all_below v (Some (array ds)) ts e = touches_below v ds ts e
   all_below v (Some (string z)) ts e = absurd (none-some ts e)
@@ -168,3 +170,19 @@ module _ (p : Syntax) (h : IsOrder p.order) where
   -- what a document gives
   pub starts_for : (ms : Members) (ss : List StartValue) → starts_in p (Some ms) ≡ Ok ss → All (IsFor p) ss
   starts_for ms ss e = versioned_for (version_of (get_member (codes "version") ms)) ms ss e
+
+  shared_for : (ms : Members) (ss : List StartValue) → shared_in p ms ≡ Ok ss → All (IsFor p) ss
+  shared_for ms ss e =
+      let shared = get_member (codes "memory") ms in
+      let all = runs_of p Two (filled_runs (members_in shared) (get_member (codes "run") ms)) in
+      let known = after_then (list_keys_pass p ms) (cond (memory_passes p.declarations shared) all (Err (NotNumber 0))) (UnknownKey 0) ss e in
+      array_for Two (filled_runs (members_in shared) (get_member (codes "run") ms)) ss
+      (after_then (memory_passes p.declarations shared) all (NotNumber 0) ss known)
+
+  of_either : (b : Bool) (ms : Members) (ss : List StartValue) → cond b (shared_in p ms) (starts_in p (Some ms)) ≡ Ok ss → All (IsFor p) ss
+  of_either true ms ss e = shared_for ms ss e
+  of_either false ms ss e = starts_for ms ss e
+
+  -- what a document of any version gives
+  pub list_for : (ms : Members) (ss : List StartValue) → list_in p (Some ms) ≡ Ok ss → All (IsFor p) ss
+  list_for ms ss e = of_either (has_shared ms) ms ss e

@@ -16,7 +16,9 @@ use Rattle.start_file.specs.Touches.{touch_of, touches_of}
 use Rattle.start_file.specs.Tables.{count_items, keys_pass}
 use Rattle.start_file.specs.Starts.{StartValue, is_top_key, run_of, with_first, runs_from, counted_runs, runs_of, versioned, starts_in}
 use Rattle.start_file.specs.Versions.{version_of}
-use Rattle.start_file.specs.declared.fault.StartFault.TheVariants.{TooMany, UnknownKey}
+use Rattle.start_file.specs.declared.fault.StartFault.TheVariants.{NoRuns, TooMany, UnknownKey}
+use Rattle.start_file.specs.Shared.{filled_run, filled_items}
+use Rattle.start_file.proofs.FilledRuns.{count_filled}
 use Rattle.start_file.proofs.TableLemmas.{count_items_view}
 
 -- these touches, and then the rest
@@ -68,45 +70,58 @@ start_first : (s : StartValue) (r : Result (List StartValue) StartFault) (ss : L
 start_first s (Ok rest) ss = ap (λ (l : List StartValue). Ok l) (sym (append_assoc ss (s ∷ []) rest))
 start_first s (Err e) ss = refl
 
-module _ (p : Syntax) (v : Version) (all : Result (List StartValue) StartFault) (vs : List Value) (i : ℕ) (ss : List StartValue)
-    (so_far : all ≡ onto ss (runs_from p v (i + 1) (items_view (drop i vs)))) where
+module _ (p : Syntax) (v : Version) (shared : Members) (all : Result (List StartValue) StartFault) (vs : List Value) (i : ℕ) (ss : List StartValue)
+    (so_far : all ≡ onto ss (runs_from p v (i + 1) (filled_items shared (items_view (drop i vs))))) where
   -- a run more
-  pub run_more : (d : Value) (s : StartValue) → i < length vs → run_of p v (i + 1) (view (get_or vs i d)) ≡ Ok s
-      → all ≡ onto (ss ++ s ∷ []) (runs_from p v (i + 1 + 1) (items_view (drop (i + 1) vs)))
+  pub run_more : (d : Value) (s : StartValue) → i < length vs → run_of p v (i + 1) (filled_run shared (view (get_or vs i d))) ≡ Ok s
+      → all ≡ onto (ss ++ s ∷ []) (runs_from p v (i + 1 + 1) (filled_items shared (items_view (drop (i + 1) vs))))
   run_more d s lt is =
-      let rest = runs_from p v (i + 1 + 1) (items_view (drop (i + 1) vs)) in
-      so_far ∙ ap (λ (x : Items). onto ss (runs_from p v (i + 1) x)) (items_view-drop vs i d lt)
+      let rest = runs_from p v (i + 1 + 1) (filled_items shared (items_view (drop (i + 1) vs))) in
+      so_far ∙ ap (λ (x : Items). onto ss (runs_from p v (i + 1) (filled_items shared x))) (items_view-drop vs i d lt)
       ∙ ap (λ (r : Result StartValue StartFault). onto ss (with_first r rest)) is
       ∙ start_first s rest ss
 
   -- a run that is refused
-  pub run_refused : (d : Value) (e : StartFault) → i < length vs → run_of p v (i + 1) (view (get_or vs i d)) ≡ Err e → all ≡ Err e
+  pub run_refused : (d : Value) (e : StartFault) → i < length vs → run_of p v (i + 1) (filled_run shared (view (get_or vs i d))) ≡ Err e → all ≡ Err e
   run_refused d e lt is =
-      let rest = runs_from p v (i + 1 + 1) (items_view (drop (i + 1) vs)) in
-      so_far ∙ ap (λ (x : Items). onto ss (runs_from p v (i + 1) x)) (items_view-drop vs i d lt)
+      let rest = runs_from p v (i + 1 + 1) (filled_items shared (items_view (drop (i + 1) vs))) in
+      so_far ∙ ap (λ (x : Items). onto ss (runs_from p v (i + 1) (filled_items shared x))) (items_view-drop vs i d lt)
       ∙ ap (λ (r : Result StartValue StartFault). onto ss (with_first r rest)) is
 
   -- no run is left
   pub runs_over : length vs ≤ i → all ≡ Ok ss
   runs_over le =
-      so_far ∙ ap (λ (l : List Value). onto ss (runs_from p v (i + 1) (items_view l))) (drop_of_length-le vs {i = i} le)
+      so_far ∙ ap (λ (l : List Value). onto ss (runs_from p v (i + 1) (filled_items shared (items_view l)))) (drop_of_length-le vs {i = i} le)
       ∙ ap (λ (l : List StartValue). Ok l) (append-nil ss)
 
-module _ (p : Syntax) (v : Version) (vs : List Value) where
+module _ (p : Syntax) (v : Version) (shared : Members) (vs : List Value) where
+  abbrev all_filled : Items
+  all_filled = filled_items shared (items_view vs)
+
+  counted : count_items all_filled ≡ length vs
+  counted = count_filled shared (items_view vs) ∙ count_items_view vs
+
+  -- no run
+  pub counted_none : length vs ≡ 0 → counted_runs p v all_filled ≡ Err NoRuns
+  counted_none e =
+      let n = counted in
+      let none : (count_items all_filled == 0) ≡ true = grind (arith, nat_tests, n, e) in
+      rw none
+
   -- a number of runs that may be
-  pub counted_some : 0 < length vs → length vs ≤ 4096 → counted_runs p v (items_view vs) ≡ runs_from p v 1 (items_view vs)
+  pub counted_some : 0 < length vs → length vs ≤ 4096 → counted_runs p v all_filled ≡ runs_from p v 1 all_filled
   counted_some lt le =
-      let n = count_items_view vs in
-      let some : (count_items (items_view vs) == 0) ≡ false = grind (arith, nat_tests, n) in
-      let few : nat_lt 4096 (count_items (items_view vs)) ≡ false = grind (arith, nat_tests, n) in
+      let n = counted in
+      let some : (count_items all_filled == 0) ≡ false = grind (arith, nat_tests, n) in
+      let few : nat_lt 4096 (count_items all_filled) ≡ false = grind (arith, nat_tests, n) in
       rw (some, few)
 
   -- and one that is too large
-  pub counted_many : 4096 < length vs → counted_runs p v (items_view vs) ≡ Err (TooMany (length vs))
+  pub counted_many : 4096 < length vs → counted_runs p v all_filled ≡ Err (TooMany (length vs))
   counted_many lt =
-      let n = count_items_view vs in
-      let some : (count_items (items_view vs) == 0) ≡ false = grind (arith, nat_tests, n) in
-      let many : nat_lt 4096 (count_items (items_view vs)) ≡ true = grind (arith, nat_tests, n) in
+      let n = counted in
+      let some : (count_items all_filled == 0) ≡ false = grind (arith, nat_tests, n) in
+      let many : nat_lt 4096 (count_items all_filled) ≡ true = grind (arith, nat_tests, n) in
       rw (some, many) (ap (λ k. Err (TooMany k)) n)
 
 -- a document with a version

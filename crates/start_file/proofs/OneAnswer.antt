@@ -5,6 +5,7 @@ use Rattle.toml.specs.Data.{Members}
 use Rattle.mit_syntax.specs.Program.{Syntax}
 use Rattle.start_file.specs.declared.fault.StartFault.{StartFault}
 use Rattle.start_file.specs.Starts.{StartValue, IsDocument, Gives, starts_in}
+use Rattle.start_file.specs.Shared.{GivesList, list_in}
 
 same_document : (bytes : List ℕ) (d e : Option Members) → IsDocument bytes d → IsDocument bytes e → d ≡ e
 same_document bytes None None g h = refl
@@ -14,3 +15,6 @@ same_document bytes (Some m) (Some n) g h = sym g.1 ∙ h.1
 
 pub one_answer : (p : Syntax) (bytes : List ℕ) (r s : Result (List StartValue) StartFault) → Gives p bytes r → Gives p bytes s → r ≡ s
 one_answer p bytes r s g h = g.2 ∙ ap (starts_in p) (same_document bytes g.0 h.0 g.1 h.1) ∙ sym h.2
+
+pub one_list_answer : (p : Syntax) (bytes : List ℕ) (r s : Result (List StartValue) StartFault) → GivesList p bytes r → GivesList p bytes s → r ≡ s
+one_list_answer p bytes r s g h = g.2 ∙ ap (list_in p) (same_document bytes g.0 h.0 g.1 h.1) ∙ sym h.2

@@ -32,7 +32,6 @@ use Rattle.std.specs.Ordering.{ordering_reverse}
 use Rattle.std.proofs.lemmas.Cmp.{nat_list_cmp_total}
 use Rattle.toml.specs.View.{view, members_view}
 use Rattle.toml.specs.declared.value.Value.{Value}
-use Rattle.toml.proofs.Views.{members_view-last}
 use Rattle.start_file.proofs.Names.{not_true}
 
 match_found : (o : Ordering) (a x : Option Data) → match_ordering o a x a ≡ cond (is_eq o) x a
@@ -44,11 +43,11 @@ match_found Greater a x = refl
 pub get_more : (k l : List ℕ) (d : Data) (ms : Members) → get_member k (member l d ms) ≡ cond (bytes_eq k l) (Some d) (get_member k ms)
 get_more k l d ms = match_found (slice_cmp nat_cmp k l) (get_member k ms) (Some d) ∙ ap (λ (b : Bool). cond b (Some d) (get_member k ms)) (is_eq-slice_cmp k l)
 
-same_bytes : (w : List ℕ) → bytes_eq w w ≡ true
+pub same_bytes : (w : List ℕ) → bytes_eq w w ≡ true
 same_bytes w = (bytes_eq-Decides w w).1 refl
 
 -- a new key at the end is found
-last_new : (w : List ℕ) (d : Data) (ms : Members) → get_member w ms ≡ None → get_member w (with_last ms w d) ≡ Some d
+pub last_new : (w : List ℕ) (d : Data) (ms : Members) → get_member w ms ≡ None → get_member w (with_last ms w d) ≡ Some d
 last_new w d no_members h = get_more w w d no_members ∙ cond-true (bytes_eq w w) (Some d) None (same_bytes w)
 last_new w d (member l e ms) h = by (last_new w d ms) (bytes_eq w l) refl
   where
@@ -60,7 +59,7 @@ last_new w d (member l e ms) h = by (last_new w d ms) (bytes_eq w l) refl
         ∙ more (sym (get_more w l e ms ∙ cond-false (bytes_eq w l) (Some e) (get_member w ms) s) ∙ h)
 
 -- and changes nothing at others
-last_other : (k w : List ℕ) (d : Data) (ms : Members) → bytes_eq k w ≡ false → get_member k (with_last ms w d) ≡ get_member k ms
+pub last_other : (k w : List ℕ) (d : Data) (ms : Members) → bytes_eq k w ≡ false → get_member k (with_last ms w d) ≡ get_member k ms
 last_other k w d no_members n = get_more k w d no_members ∙ cond-false (bytes_eq k w) (Some d) None n
 last_other k w d (member l e ms) n =
     get_more k l e (with_last ms w d) ∙ ap (λ (o : Option Data). cond (bytes_eq k l) (Some e) o) (last_other k w d ms n) ∙ sym (get_more k l e ms)
@@ -111,16 +110,21 @@ splice_front xs ys vs e =
     let n : 0 + length vs ≡ length xs + 0 = omega (arith, e) in
     ap (λ l. vs ++ l) (drop_after xs ys 0 (0 + length vs) n)
 
-abbrev names : List Declaration → List (List ℕ)
+abbrev pub names : List Declaration → List (List ℕ)
 names ds = map (λ d. d.0) ds
 
+-- two tables have the same, but perhaps for one name
+abbrev pub AlikeBut : List ℕ → Members → Members → Type 0
+AlikeBut w ms ns = (k : List ℕ) → bytes_eq k w ≡ false → get_member k ns ≡ get_member k ms
+
 -- a name that is declared nowhere changes nothing
-memory_apart : (ds : List Declaration) (w : List ℕ) (d : Data) (ms : Members) → ((j : ℕ) → j < length (names ds) → bytes_eq (get_or (names ds) j []) w ≡ false)
-    → memory_of ds (with_last ms w d) ≡ memory_of ds ms
-memory_apart [] w d ms n = refl
-memory_apart (x ∷ ds) w d ms n =
-    ap (λ o. values_of x.1.length o ++ memory_of ds (with_last ms w d)) (last_other x.0 w d ms (n 0 (omega arith)))
-    ∙ ap (λ l. values_of x.1.length (get_member x.0 ms) ++ l) (memory_apart ds w d ms (λ j l. n (suc j) (omega (arith, l))))
+memory_apart : (ds : List Declaration) (w : List ℕ) (ms ns : Members) → AlikeBut w ms ns
+    → ((j : ℕ) → j < length (names ds) → bytes_eq (get_or (names ds) j []) w ≡ false)
+    → memory_of ds ns ≡ memory_of ds ms
+memory_apart [] w ms ns alike n = refl
+memory_apart (x ∷ ds) w ms ns alike n =
+    ap (λ o. values_of x.1.length o ++ memory_of ds ns) (alike x.0 (n 0 (omega arith)))
+    ∙ ap (λ l. values_of x.1.length (get_member x.0 ms) ++ l) (memory_apart ds w ms ns alike (λ j l. n (suc j) (omega (arith, l))))
 
 rest_differ : (x : Declaration) (ds : List Declaration) → AllDiffer (names (x ∷ ds)) → AllDiffer (names ds)
 rest_differ x ds h i j d l k = h (suc i) (suc j) d (omega arith) (omega arith)
@@ -131,7 +135,7 @@ first_apart x ds h j l =
     not_true (bytes_eq (get_or (names ds) j []) x.0)
     (λ t. h 0 (suc j) [] (omega arith) (omega arith) (sym ((bytes_eq-Decides (get_or (names ds) j []) x.0).0 t)))
 
-other_way : (a b : List ℕ) → bytes_eq a b ≡ false → bytes_eq b a ≡ false
+pub other_way : (a b : List ℕ) → bytes_eq a b ≡ false → bytes_eq b a ≡ false
 other_way a b n = not_true (bytes_eq b a) (λ t. by (sym n ∙ (bytes_eq-Decides a b).1 (sym ((bytes_eq-Decides b a).0 t))))
   where
     by : false ≡ true → ⊥
@@ -149,13 +153,14 @@ written_after None d n xs ys e = refl
 written_after (Some r) d n xs ys e = let k : n + r.0 ≡ length xs + r.0 = omega (arith, e) in
     sym (splice_after xs ys (values_of r.1.length (Some d)) r.0 (n + r.0) k)
 
-pub put_last : (ds : List Declaration) (w : List ℕ) (d : Data) (ms : Members) → AllDiffer (names ds) → get_member w ms ≡ None
-    → memory_of ds (with_last ms w d) ≡ written (slot_of ds w) d (memory_of ds ms)
-put_last [] w d ms h none = refl
-put_last (x ∷ ds) w d ms h none = by (put_last ds w d ms (rest_differ x ds h) none) (bytes_eq w x.0) refl
+-- where a name's value alone is another one, it is written
+pub put_name : (ds : List Declaration) (w : List ℕ) (d : Data) (ms ns : Members) → AllDiffer (names ds) → AlikeBut w ms ns → get_member w ns ≡ Some d
+    → memory_of ds ns ≡ written (slot_of ds w) d (memory_of ds ms)
+put_name [] w d ms ns h alike there = refl
+put_name (x ∷ ds) w d ms ns h alike there = by (put_name ds w d ms ns (rest_differ x ds h) alike there) (bytes_eq w x.0) refl
   where
-    by : memory_of ds (with_last ms w d) ≡ written (slot_of ds w) d (memory_of ds ms) → (b : Bool) → bytes_eq w x.0 ≡ b
-        → memory_of (x ∷ ds) (with_last ms w d) ≡ written (slot_of (x ∷ ds) w) d (memory_of (x ∷ ds) ms)
+    by : memory_of ds ns ≡ written (slot_of ds w) d (memory_of ds ms) → (b : Bool) → bytes_eq w x.0 ≡ b
+        → memory_of (x ∷ ds) ns ≡ written (slot_of (x ∷ ds) w) d (memory_of (x ∷ ds) ms)
     by more true e =
         let same : w ≡ x.0 = (bytes_eq-Decides w x.0).0 e in
         let old = values_of x.1.length (get_member x.0 ms) in
@@ -163,18 +168,18 @@ put_last (x ∷ ds) w d ms h none = by (put_last ds w d ms (rest_differ x ds h) 
         let sizes : length new ≡ length old = length-values_of x.1.length (Some d) ∙ sym (length-values_of x.1.length (get_member x.0 ms)) in
         let slot : slot_of (x ∷ ds) w ≡ Some (slot_at (0, x.1)) =
         ap (option_map slot_at) (cond-true (bytes_eq w x.0) (Some (0, x.1)) (option_map (later (size_of x.1)) (declared ds w)) e) in
-        let found : get_member x.0 (with_last ms w d) ≡ Some d = subst (λ v. get_member v (with_last ms w d) ≡ Some d) same (last_new w d ms none) in
+        let found : get_member x.0 ns ≡ Some d = subst (λ v. get_member v ns ≡ Some d) same there in
         let apart : (j : ℕ) → j < length (names ds) → bytes_eq (get_or (names ds) j []) w ≡ false =
         λ j l. subst (λ v. bytes_eq (get_or (names ds) j []) v ≡ false) (sym same) (first_apart x ds h j l) in
-        ap (λ o. values_of x.1.length o ++ memory_of ds (with_last ms w d)) found
-        ∙ ap (λ l. new ++ l) (memory_apart ds w d ms apart)
+        ap (λ o. values_of x.1.length o ++ memory_of ds ns) found
+        ∙ ap (λ l. new ++ l) (memory_apart ds w ms ns alike apart)
         ∙ sym (splice_front old (memory_of ds ms) new sizes)
         ∙ ap (λ s. written s d (old ++ memory_of ds ms)) (sym slot)
     by more false e =
         let old = values_of x.1.length (get_member x.0 ms) in
         let slot : slot_of (x ∷ ds) w ≡ option_map slot_at (option_map (later (size_of x.1)) (declared ds w)) =
         ap (option_map slot_at) (cond-false (bytes_eq w x.0) (Some (0, x.1)) (option_map (later (size_of x.1)) (declared ds w)) e) in
-        ap (λ o. values_of x.1.length o ++ memory_of ds (with_last ms w d)) (last_other x.0 w d ms (other_way w x.0 e))
+        ap (λ o. values_of x.1.length o ++ memory_of ds ns) (alike x.0 (other_way w x.0 e))
         ∙ ap (λ l. old ++ l) more
         ∙ written_after (declared ds w) d (size_of x.1) old (memory_of ds ms) (length-values_of x.1.length (get_member x.0 ms))
         ∙ ap (λ s. written s d (old ++ memory_of ds ms)) (sym slot)
@@ -225,7 +230,7 @@ module _ (m : List ℤ) (s : Slot) (d : Data) (fits : s.first + size_in s.length
       ∙ ap (λ l. splice s.first l m) is
       ∙ ap (λ l. splice s.first (values_of l (Some d)) m) (sym e)
 
-abbrev Entry : Type 0
+abbrev pub Entry : Type 0
 Entry = String Global × Value
 
 below_later : (x : Entry) (es : List Entry) (e : Entry) (more : List Entry) → AllByRecursion (λ y. string_cmp x.0 y ≡ Less) (keys_of (es ++ e ∷ more))
@@ -234,7 +239,7 @@ below_later x [] e more h = h.0
 below_later x (y ∷ es) e more h = below_later x es e more h.1
 
 -- the key of an entry stands in none before it
-new_key : (es : List Entry) (e : Entry) (more : List Entry) → IsStrictlySortedBy string_cmp (keys_of (es ++ e ∷ more))
+pub new_key : (es : List Entry) (e : Entry) (more : List Entry) → IsStrictlySortedBy string_cmp (keys_of (es ++ e ∷ more))
     → get_member (string_bytes e.0) (members_view es) ≡ None
 unfolding IsStrictlySortedBy
 new_key [] e more h = refl
@@ -243,27 +248,12 @@ new_key (x ∷ es) e more h =
     nat_list_cmp_total.antisymm (string_bytes e.0) (string_bytes x.0) ∙ ap ordering_reverse (below_later x es e more h.0) in
     rw above (new_key es e more h.1)
 
--- one entry of a table more
-pub put_entry : (ds : List Declaration) (es : List Entry) (e : Entry) (more : List Entry) → AllDiffer (names ds)
-    → IsStrictlySortedBy string_cmp (keys_of (es ++ e ∷ more))
-    → memory_of ds (members_view (es ++ e ∷ [])) ≡ written (slot_of ds (string_bytes e.0)) (view e.1) (memory_of ds (members_view es))
-put_entry ds es e more h sorted =
-    ap (memory_of ds) (members_view-last es e.0 e.1) ∙ put_last ds (string_bytes e.0) (view e.1) (members_view es) h (new_key es e more sorted)
-
 -- the entry at the front of those that are left, with its key's bytes
 module _ (ds : List Declaration) (it rest : List Entry) (e : Entry) (w : List ℕ) (front : it ≡ e ∷ rest) (key : w ≡ string_bytes e.0) where
   pub passes_more : (all : Bool) → is_value (slot_of ds w) (view e.1) ≡ true → all ≡ values_pass ds (members_view it) → all ≡ values_pass ds (members_view rest)
   passes_more all good h =
       let here : is_value (slot_of ds (string_bytes e.0)) (view e.1) ≡ true = subst (λ b. is_value (slot_of ds b) (view e.1) ≡ true) key good in
       h ∙ ap (λ l. values_pass ds (members_view l)) front ∙ ap (λ b. b && values_pass ds (members_view rest)) here
-
-  pub memory_more : (all done : List Entry) (m new : List ℤ) → AllDiffer (names ds) → IsStrictlySortedBy string_cmp (keys_of all) → all ≡ done ++ it
-      → m ≡ memory_of ds (members_view done) → new ≡ written (slot_of ds w) (view e.1) m → new ≡ memory_of ds (members_view (done ++ e ∷ []))
-  memory_more all done m new differ sorted parts h put =
-      let whole : all ≡ done ++ e ∷ rest = parts ∙ ap (λ l. done ++ l) front in
-      let ordered : IsStrictlySortedBy string_cmp (keys_of (done ++ e ∷ rest)) = subst (λ l. IsStrictlySortedBy string_cmp (keys_of l)) whole sorted in
-      put ∙ ap (λ b. written (slot_of ds b) (view e.1) m) key ∙ ap (written (slot_of ds (string_bytes e.0)) (view e.1)) h
-      ∙ sym (put_entry ds done e rest differ ordered)
 
 zero_elements : (n : ℕ) → elements_of n no_items ≡ replicate n (pos 0)
 zero_elements zero = refl

@@ -4,3 +4,4 @@ pub mod Values
 pub mod Touches
 pub mod Edits
 pub mod Starts
+pub mod Shared

@@ -15,6 +15,11 @@ version_of None = Some One
 version_of (Some (integer z)) = numbered z
 version_of (Some _) = None
 
+-- version 3
+abbrev pub is_three : Option Data → Bool
+is_three (Some (integer z)) = int_eq z (pos 3)
+is_three _ = false
+
 -- whether arrays may be named, and touches of the second level written
 abbrev pub is_two : Version → Bool
 is_two One = false

@@ -4,9 +4,10 @@
 pub mod fault;
 mod memory;
 mod run;
+pub mod shared;
 mod slot;
 pub mod start;
 pub mod starts;
-mod table;
-mod touch;
-mod version;
+pub mod table;
+pub mod touch;
+pub mod version;

@@ -3,7 +3,7 @@
 ghost use Rattle.std.specs.Prelude.{◌≡◌, ◌≢◌, ◌+◌, ◌≤◌, true, false, IsTrue, IfOk, IfErr, length, Some, string_bytes, pos, replicate};
 ghost use Rattle.std.specs.List.{list_all};
 ghost use Rattle.std.specs.BTreeMap.{keys};
-ghost use Rattle.toml.specs.Data.{no_members, get_item};
+ghost use Rattle.toml.specs.Data.{Members, get_item};
 ghost use Rattle.toml.specs.View.{view, items_view, table_view};
 ghost use Rattle.mit_syntax.specs.Declarations.{variables, size_in};
 ghost use Rattle.mit_syntax.specs.Valid.{IsValid};
@@ -11,6 +11,7 @@ ghost use Rattle.start_file.specs.Tables.{data_of, items_in, members_in};
 ghost use Rattle.start_file.specs.Values.{slot_of, is_key, names_pass, is_integer, are_integers, is_filling, is_value};
 ghost use Rattle.start_file.specs.Values.{values_pass, memory_passes, number_of, elements_of, memory_of, values_of};
 ghost use Rattle.start_file.specs.Edits.{splice, written};
+ghost use Rattle.start_file.specs.Shared.{filled};
 
 use crate::fault::StartFault;
 use crate::slot::{Slot, slot_of};
@@ -152,12 +153,14 @@ fn put(program: &Program, memory: &mut [i64], key: &str, value: &Value) -> bool
     true
 }
 
-// Writes the values of all names, or says that one is none.
+// Writes the values of all names over those that are shared, or says that one is none.
+#[tactic(auto, using(crate::proofs::Filling::none_yet))]
 fn put_all(program: &Program, memory: &mut [i64], table: &Table) -> bool
     requires valid { IsValid program.now }
-    requires zeros { memory.old ≡ memory_of program.now.declarations no_members }
+    requires size { length memory.old ≡ variables program.now.declarations }
     ensures value { result ≡ values_pass program.now.declarations (table_view table.now) }
-    ensures written { IsTrue result → memory.new ≡ memory_of program.now.declarations (table_view table.now) }
+    ensures written { IsTrue result → (shared : Members) → memory.old ≡ memory_of program.now.declarations shared
+        → memory.new ≡ memory_of program.now.declarations (filled (table_view table.now) shared) }
 {
     for (key, value) in table {
         if !put(program, memory, key.as_str(), value) {
@@ -167,10 +170,48 @@ fn put_all(program: &Program, memory: &mut [i64], table: &Table) -> bool
     true
 }
 
-fn zeros(alloc: Global, count: u32) -> Result<Vec<i64>, AllocError>
+/// So many zeros.
+///
+/// # Errors
+/// `AllocError` where memory runs out.
+pub(crate) fn zeros(alloc: Global, count: u32) -> Result<Vec<i64>, AllocError>
     ensures { IfOk result (λ v. v.items ≡ replicate count (pos 0)) }
 {
     vec![in alloc; 0; count as usize]
+}
+
+/// The values of the variables, for the run with a number: those of its `memory`, and where that has none, those that are shared.
+///
+/// # Errors
+/// `NotNumber` where `memory` is no table or a value in it is none.
+pub(crate) fn values_over(
+    program: &Program,
+    run: u32,
+    shared: Vec<i64>,
+    memory: Option<&Value>,
+) -> Result<Vec<i64>, StartFault>
+    requires valid { IsValid program.now }
+    requires size { length shared.items ≡ variables program.now.declarations }
+    ensures passes { IfOk result (λ m. memory_passes program.now.declarations (data_of memory.entry) ≡ true) }
+    ensures values { IfOk result (λ m. (ms : Members) → shared.items ≡ memory_of program.now.declarations ms
+        → m.items ≡ memory_of program.now.declarations (filled (members_in (data_of memory.entry)) ms)) }
+    ensures fault { IfErr result (λ e. e ≡ StartFault.NotNumber run) }
+    ensures refused { IfErr result (λ e. memory_passes program.now.declarations (data_of memory.entry) ≡ false) }
+{
+    let mut values = shared;
+    let Some(value) = memory else {
+        return Ok(values);
+    };
+    match value {
+        Value::Table(table) => {
+            if put_all(program, &mut values, table) {
+                Ok(values)
+            } else {
+                Err(StartFault::NotNumber(run))
+            }
+        }
+        _ => Err(StartFault::NotNumber(run)),
+    }
 }
 
 /// The values of the variables, for the run with a number.
@@ -189,18 +230,7 @@ pub fn memory(
     ensures fault { IfErr result (λ e. e ≢ StartFault.Memory → e ≡ StartFault.NotNumber run) }
     ensures refused { IfErr result (λ e. e ≢ StartFault.Memory → memory_passes program.now.declarations (data_of memory.entry) ≡ false) }
 {
-    let mut values = zeros(alloc, program.variables())?;
-    let Some(value) = memory else {
-        return Ok(values);
-    };
-    match value {
-        Value::Table(table) => {
-            if put_all(program, &mut values, table) {
-                Ok(values)
-            } else {
-                Err(StartFault::NotNumber(run))
-            }
-        }
-        _ => Err(StartFault::NotNumber(run)),
-    }
+    let zeros = zeros(alloc, program.variables())?;
+    let values = values_over(program, run, zeros, memory)?;
+    Ok(values)
 }

@@ -3,12 +3,16 @@
 ghost use Rattle.std.specs.Prelude.{◌≡◌, ◌≢◌, ◌≤◌, All, Some, None, Ok, Err, IfOk, IfErr, length, map, string_bytes};
 ghost use Rattle.std.specs.List.{list_all};
 ghost use Rattle.std.specs.BTreeMap.{keys};
+ghost use Rattle.toml.specs.Data.{Members};
 ghost use Rattle.toml.specs.View.{items_view, table_view};
+ghost use Rattle.mit_syntax.specs.Declarations.{variables};
 ghost use Rattle.mit_syntax.specs.Valid.{IsValid};
 ghost use Rattle.start_file.specs.Tables.{data_of};
 ghost use Rattle.start_file.specs.Starts.{is_top_key, runs_from, counted_runs, runs_of, starts_in, seen, IsDocument, Gives, IsFor};
+ghost use Rattle.start_file.specs.Shared.{filled_items, filled_runs, IsShared};
 
 use crate::fault::StartFault;
+use crate::memory::zeros;
 use crate::run::run;
 use crate::start::Start;
 use crate::table::at;
@@ -30,7 +34,11 @@ fn has_top_keys(table: &Table) -> bool
     table.keys().all(|key| is_top_key(key.as_str()))
 }
 
-fn document(alloc: Global, bytes: &[u8]) -> Result<Table, StartFault>
+/// The document that bytes write.
+///
+/// # Errors
+/// `NotToml` or `Memory`.
+pub(crate) fn document(alloc: Global, bytes: &[u8]) -> Result<Table, StartFault>
     ensures ok { IfOk result (λ t. IsDocument bytes.now (Some (table_view t))) }
     ensures fault { IfErr result (λ e. e ≢ StartFault.Memory → e ≡ StartFault.NotToml) }
     ensures refused { IfErr result (λ e. e ≢ StartFault.Memory → IsDocument bytes.now None) }
@@ -51,16 +59,23 @@ fn all_runs(
     alloc: Global,
     program: &Program,
     version: Version,
+    shared: &[i64],
     values: &[Value],
 ) -> Result<Vec<Start>, StartFault>
     requires valid { IsValid program.now }
+    requires size { length shared.now ≡ variables program.now.declarations }
     requires few { length values.now ≤ MAX_RUNS }
-    ensures ok { IfOk result (λ v. runs_from program.now version 1 (items_view values.now) ≡ Ok (map seen v.items)) }
-    ensures refused { IfErr result (λ e. e ≢ StartFault.Memory → runs_from program.now version 1 (items_view values.now) ≡ Err e) }
+    ensures ok { IfOk result (λ v. (ms : Members) → IsShared program.now version ms shared.now
+        → runs_from program.now version 1 (filled_items ms (items_view values.now)) ≡ Ok (map seen v.items)) }
+    ensures refused { IfErr result (λ e. e ≢ StartFault.Memory → (ms : Members) → IsShared program.now version ms shared.now
+        → runs_from program.now version 1 (filled_items ms (items_view values.now)) ≡ Err e) }
 {
     let mut starts = Vec::new(alloc);
     for (i, value) in values.iter().enumerate() {
-        let start = run(alloc, program, version, i as u32 + 1, value)?;
+        let start = match run(alloc, program, version, i as u32 + 1, shared, value) {
+            Ok(start) => start,
+            Err(fault) => return Err(fault),
+        };
         starts.push(start)?;
     }
     Ok(starts)
@@ -70,11 +85,15 @@ fn counted_runs(
     alloc: Global,
     program: &Program,
     version: Version,
+    shared: &[i64],
     values: &[Value],
 ) -> Result<Vec<Start>, StartFault>
-    requires { IsValid program.now }
-    ensures ok { IfOk result (λ v. counted_runs program.now version (items_view values.now) ≡ Ok (map seen v.items)) }
-    ensures refused { IfErr result (λ e. e ≢ StartFault.Memory → counted_runs program.now version (items_view values.now) ≡ Err e) }
+    requires valid { IsValid program.now }
+    requires size { length shared.now ≡ variables program.now.declarations }
+    ensures ok { IfOk result (λ v. (ms : Members) → IsShared program.now version ms shared.now
+        → counted_runs program.now version (filled_items ms (items_view values.now)) ≡ Ok (map seen v.items)) }
+    ensures refused { IfErr result (λ e. e ≢ StartFault.Memory → (ms : Members) → IsShared program.now version ms shared.now
+        → counted_runs program.now version (filled_items ms (items_view values.now)) ≡ Err e) }
 {
     if values.is_empty() {
         return Err(StartFault::NoRuns);
@@ -82,10 +101,38 @@ fn counted_runs(
     if are_too_many(values.len()) {
         return Err(StartFault::TooMany(values.len() as u64));
     }
-    all_runs(alloc, program, version, values)
+    all_runs(alloc, program, version, shared, values)
 }
 
-fn runs(
+/// The starts of the runs in an array, with the values that they share where they have none of their own.
+///
+/// # Errors
+/// `NoRuns`, `TooMany`, the refusal of the first run that is refused, or `Memory`.
+pub(crate) fn runs(
+    alloc: Global,
+    program: &Program,
+    version: Version,
+    shared: &[i64],
+    value: Option<&Value>,
+) -> Result<Vec<Start>, StartFault>
+    requires valid { IsValid program.now }
+    requires size { length shared.now ≡ variables program.now.declarations }
+    ensures ok { IfOk result (λ v. (ms : Members) → IsShared program.now version ms shared.now
+        → runs_of program.now version (filled_runs ms (data_of value.entry)) ≡ Ok (map seen v.items)) }
+    ensures refused { IfErr result (λ e. e ≢ StartFault.Memory → (ms : Members) → IsShared program.now version ms shared.now
+        → runs_of program.now version (filled_runs ms (data_of value.entry)) ≡ Err e) }
+{
+    let Some(value) = value else {
+        return Err(StartFault::NoRuns);
+    };
+    match value {
+        Value::Array(values) => counted_runs(alloc, program, version, shared, values.as_slice()),
+        _ => Err(StartFault::NoRuns),
+    }
+}
+
+// The starts of the runs in an array, which share nothing.
+fn own_runs(
     alloc: Global,
     program: &Program,
     version: Version,
@@ -95,16 +142,23 @@ fn runs(
     ensures ok { IfOk result (λ v. runs_of program.now version (data_of value.entry) ≡ Ok (map seen v.items)) }
     ensures refused { IfErr result (λ e. e ≢ StartFault.Memory → runs_of program.now version (data_of value.entry) ≡ Err e) }
 {
-    let Some(value) = value else {
-        return Err(StartFault::NoRuns);
+    let zeros = zeros(alloc, program.variables())?;
+    let starts = match runs(alloc, program, version, &zeros, value) {
+        Ok(starts) => starts,
+        Err(fault) => return Err(fault),
     };
-    match value {
-        Value::Array(values) => counted_runs(alloc, program, version, values.as_slice()),
-        _ => Err(StartFault::NoRuns),
-    }
+    Ok(starts)
 }
 
-fn starts_in(alloc: Global, program: &Program, table: &Table) -> Result<Vec<Start>, StartFault>
+/// The starts of a document of version 1 or 2.
+///
+/// # Errors
+/// As those of `read_starts`.
+pub(crate) fn starts_in(
+    alloc: Global,
+    program: &Program,
+    table: &Table,
+) -> Result<Vec<Start>, StartFault>
     requires { IsValid program.now }
     ensures ok { IfOk result (λ v. starts_in program.now (Some (table_view table.now)) ≡ Ok (map seen v.items)) }
     ensures refused { IfErr result (λ e. e ≢ StartFault.Memory → starts_in program.now (Some (table_view table.now)) ≡ Err e) }
@@ -115,7 +169,7 @@ fn starts_in(alloc: Global, program: &Program, table: &Table) -> Result<Vec<Star
     if !has_top_keys(table) {
         return Err(StartFault::UnknownKey(0));
     }
-    runs(alloc, program, version, at(table, "run"))
+    own_runs(alloc, program, version, at(table, "run"))
 }
 
 /// The starts of the runs of a start file for a program, in order. Each has a value for each variable of

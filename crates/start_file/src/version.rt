@@ -3,7 +3,7 @@
 ghost use Rattle.std.specs.Prelude.{◌≡◌};
 ghost use Rattle.toml.specs.View.{view};
 ghost use Rattle.start_file.specs.Tables.{data_of};
-ghost use Rattle.start_file.specs.Versions.{numbered, version_of, is_two};
+ghost use Rattle.start_file.specs.Versions.{numbered, version_of, is_two, is_three};
 
 use toml::Value;
 
@@ -49,5 +49,18 @@ pub fn stated(value: Option<&Value>) -> Option<Version>
     match value {
         Value::Integer(number) => numbered(*number),
         _ => None,
+    }
+}
+
+/// Whether the version that a file states is 3.
+pub fn is_three(value: Option<&Value>) -> bool
+    ensures { result ≡ is_three (data_of value.entry) }
+{
+    let Some(value) = value else {
+        return false;
+    };
+    match value {
+        Value::Integer(number) => *number == 3,
+        _ => false,
     }
 }

@@ -23,7 +23,7 @@ abbrev pub Runs : Type 0
 Runs = Result (List StartValue) StartFault
 
 -- an answer behind a test is not the refusal
-then_part : (b : Bool) (ss : List StartValue) (r : Runs) (f : StartFault) → Ok ss ≡ cond b r (Err f) → Ok ss ≡ r
+pub then_part : (b : Bool) (ss : List StartValue) (r : Runs) (f : StartFault) → Ok ss ≡ cond b r (Err f) → Ok ss ≡ r
 then_part true ss r f e = e
 then_part false ss r f e = absurd cc
 
@@ -52,7 +52,7 @@ as_many p v n no_items ss e = let same : ss ≡ [] = cc in ap length same
 as_many p v n (item d ds) ss e = one_more ss (run_of p v n d) (runs_from p v (n + 1) ds) (count_items ds) (λ rest k. as_many p v (n + 1) ds rest k) e
 
 -- there are 1 to 4,096
-abbrev IsCounted : List StartValue → Type 0
+abbrev pub IsCounted : List StartValue → Type 0
 IsCounted ss = (0 < length ss) × (length ss ≤ 4096)
 
 some_counted : (p : Syntax) (v : Version) (ds : Items) (ss : List StartValue) → Ok ss ≡ counted_runs p v ds → IsCounted ss
@@ -65,7 +65,7 @@ some_counted p v (item d ds) ss e =
     let n = as_many p v 1 (item d ds) ss all in
     (some_first ss (run_of p v 1 d) (runs_from p v 2 ds) all, omega (arith, few, n))
 
-some_runs : (p : Syntax) (v : Version) (d : Option Data) (ss : List StartValue) → Ok ss ≡ runs_of p v d → IsCounted ss
+pub some_runs : (p : Syntax) (v : Version) (d : Option Data) (ss : List StartValue) → Ok ss ≡ runs_of p v d → IsCounted ss
 some_runs p v None ss e = absurd cc
 some_runs p v (Some (array ds)) ss e = some_counted p v ds ss e
 some_runs p v (Some (toml.string x)) ss e = absurd cc
@@ -80,7 +80,7 @@ some_versioned p None ms ss e = absurd cc
 some_versioned p (Some v) ms ss e =
     some_runs p v (get_member (codes "run") ms) ss (then_part (keys_pass is_top_key ms) ss (runs_of p v (get_member (codes "run") ms)) (UnknownKey 0) e)
 
-some_starts : (p : Syntax) (d : Option Members) (ss : List StartValue) → Ok ss ≡ starts_in p d → IsCounted ss
+pub some_starts : (p : Syntax) (d : Option Members) (ss : List StartValue) → Ok ss ≡ starts_in p d → IsCounted ss
 some_starts p None ss e = absurd cc
 some_starts p (Some ms) ss e = some_versioned p (version_of (get_member (codes "version") ms)) ms ss e
 

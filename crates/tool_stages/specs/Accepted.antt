@@ -3,7 +3,9 @@ use Rattle.std.specs.Prelude.{◌≡◌, ℕ, List, Option, Bool, true, false}
 use Rattle.env_contract.specs.Env.{Env}
 use Rattle.mit_syntax.specs.Plan.{count, mitigates}
 use Rattle.mit_syntax.specs.Program.{Syntax, plan_of}
-use Rattle.timing_types.specs.Labelled.{LabelledProgram, labels_of, levels_of}
+use Rattle.timing_types.specs.Labelling.{Labelling}
+use Rattle.timing_types.specs.Labelled.{LabelledProgram, labels_of, levels_of, HasType}
+use Rattle.label_infer.specs.Least.{Labels, Below}
 use Rattle.code_lower.specs.Lowered.{instrs_of}
 use Rattle.env_contract.specs.declared.place.Touch.{Touch}
 use Rattle.history_bound.specs.Over.{AnyHistory}
@@ -13,7 +15,8 @@ use Rattle.tool_texts.specs.declared.status.Status.{Status}
 use Rattle.tool_texts.specs.declared.status.Status.TheVariants as status
 use Rattle.tool_texts.specs.Texts.{accepted_line}
 use Rattle.tool_stages.specs.declared.envs.Environment.{Environment}
-use Rattle.tool_stages.specs.Stages.{Reads, Types, Rechecks}
+use Rattle.tool_stages.specs.Stages.{Rechecks}
+use Rattle.tool_stages.specs.Spelt.{TextSpells}
 use Rattle.tool_stages.specs.Envs.{IsPartitioned, environment}
 
 -- The image of a labelled program is sound in an environment, for runs that halt and for runs that are cut. Its
@@ -30,18 +33,25 @@ IsSound q = (e : Environment) → IsPartitioned e → IsSoundIn (environment e q
 abbrev pub TypedAreSound : Type 0
 TypedAreSound = (q : LabelledProgram) → IsTypedWith q → IsSound q
 
--- the program of a file is accepted: its least labelling types it, so it is one of those that are sound
+-- the program with the least of the labellings that type it
+pub record TypesLeast (p : Syntax) (q : LabelledProgram) : Type 0 where
+  pub program : q.program ≡ p
+  pub labels : Labels p q.labels
+  pub typed : HasType q
+  pub least : (l : Labelling) → Labels p l → HasType (record { program = p; labels = l }) → Below p q.labels l
+
+-- the program of a file is accepted: with the least of the labellings that type it, it is one of those that are sound
 pub record IsAccepted (content : Option (Option (List ℕ))) : Type 0 where
   pub program : Syntax
-  pub reads : Reads content program
+  pub spells : TextSpells content program
   pub labelled : LabelledProgram
-  pub types : Types program labelled
+  pub types : TypesLeast program labelled
   pub typed : IsTypedWith labelled
 
 -- the labelling that the certificate in another file holds types the program of a file, and it is sound with this one too
 pub record IsRechecked (content certificate : Option (Option (List ℕ))) : Type 0 where
   pub program : Syntax
-  pub reads : Reads content program
+  pub spells : TextSpells content program
   pub labelled : LabelledProgram
   pub rechecks : Rechecks certificate program labelled
   pub typed : IsTypedWith labelled

@@ -1,3 +1,4 @@
 pub mod WordsAsked
 pub mod WordsForms
+pub mod WordsRun
 pub mod WordsValues

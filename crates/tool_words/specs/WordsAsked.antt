@@ -10,7 +10,8 @@ use Rattle.tool_words.specs.declared.words.Command.{Command}
 use Rattle.tool_words.specs.declared.words.Command.TheVariants as command
 use Rattle.tool_words.specs.declared.words.EnvName.{EnvName}
 use Rattle.tool_words.specs.WordsForms.{bare, observed_app, option_rule, required_option_rule, required_word_rule}
-use Rattle.tool_words.specs.WordsValues.{budget_given, env_given, number_given, observed_given}
+use Rattle.tool_words.specs.WordsValues.{budget_given, number_given, observed_given}
+use Rattle.tool_words.specs.WordsRun.{run_app, run_given}
 
 -- A command with the bytes of its texts, in the order of `Command`: file, starts, observer, environment and budget
 -- of an audit and of a cut; file, starts, environment, budget and observer of a run.
@@ -48,12 +49,6 @@ verb_named word =
 -- FILE
 abbrev pub file_app : Text → App
 file_app name = with_rule (bare (new_app name)) (required_word_rule (codes "FILE"))
-
--- FILE [STARTS] [--env E] [--budget T] [--observer L]
-abbrev pub run_app : App
-run_app = with_rule (with_rule (with_rule (with_rule (with_rule (bare (new_app (codes "run")))
-    (required_word_rule (codes "FILE"))) (new_rule (codes "STARTS")))
-    (option_rule (codes "env"))) (option_rule (codes "budget"))) (option_rule (codes "observer"))
 
 -- FILE [STARTS] --steps N
 abbrev pub meaning_app : App
@@ -95,10 +90,6 @@ abbrev pub file_asked : (Text → Asked) → Option Text → Option Asked
 file_asked command (Some file) = Some (command file)
 file_asked command None = None
 
-abbrev pub run_asked : Option Text → Option Text → Option EnvName → Option ℕ → Option Text → Option Asked
-run_asked (Some file) starts (Some env) (Some budget) observer = Some (run file starts env budget observer)
-run_asked _ _ _ _ _ = None
-
 abbrev pub meaning_asked : Option Text → Option Text → Option ℕ → Option Asked
 meaning_asked (Some file) starts (Some steps) = Some (meaning file starts steps)
 meaning_asked _ _ _ = None
@@ -122,8 +113,7 @@ abbrev pub given : Verb → List Row → Option Asked
 given Check rows = file_given check rows
 given Infer rows = file_given infer rows
 given Compile rows = file_given compile rows
-given Run rows = run_asked (first_of (codes "FILE") rows) (first_of (codes "STARTS") rows) (env_given rows)
-    (budget_given rows) (first_of (codes "observer") rows)
+given Run rows = run_given run rows
 given Meaning rows = meaning_asked (first_of (codes "FILE") rows) (first_of (codes "STARTS") rows)
     (number_given (codes "steps") 0 (2 ^ 40) rows)
 given Audit rows = observed_given audit rows

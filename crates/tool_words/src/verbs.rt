@@ -3,7 +3,8 @@
 ghost use Rattle.std.specs.Prelude.{◌≡◌, IfOk, IfSome, option_map};
 ghost use Rattle.clap.specs.Words.{app_of, found_of, rows_of};
 ghost use Rattle.tool_words.specs.WordsAsked.{IsInRange, asked_of, blackbox_app, file_app, form_app, gen_app, given, meaning_app, recheck_app};
-ghost use Rattle.tool_words.specs.WordsAsked.{run_app, verb_named};
+ghost use Rattle.tool_words.specs.WordsAsked.{verb_named};
+ghost use Rattle.tool_words.specs.WordsRun.{run_app};
 
 use crate::forms::{bare_form, observed_form, option, required_option, required_word};
 use crate::readers::{budget, env, file, number, text};

@@ -4,7 +4,7 @@ use Rattle.tool_stages.proofs.FetchLemmas.{fetch_stops, not_read}
 use Rattle.tim_base.specs.Faults.{Rose}
 use Rattle.tool_stages.proofs.PrepareLemmas.{compiled_of}
 use Rattle.lab_runs.proofs.PreparedLemmas.{program_stops, never_read}
-use Rattle.tool_stages.proofs.SoundLemmas.{least_made}
+use Rattle.tool_stages.proofs.SoundLemmas.{accepted}
 use Rattle.lab_runs.proofs.prepared.compile.Goals as goal
 
 pub returns-in-Err-clause-log : goal.returns-in-Err-clause-log
@@ -27,10 +27,5 @@ returns-in-Err-clause-stop g c =
     c.args.file.now (Some c.args.name.now) c.in_ok-program.program c.in-Err.stop c.in_ok-program.ensures.ok c.in-Err.ensures.stop
 
 pub returns-in-Ok-clause-accepted : goal.returns-in-Ok-clause-accepted
-returns-in-Ok-clause-accepted g c = record {
-  program = c.in_ok-program.program;
-  reads = c.in_ok-program.ensures.ok;
-  labelled = c.in-Ok.compiled.typed.labelled;
-  types = c.in-Ok.ensures.ok.types;
-  typed = least_made _ c.in_ok-program.program c.in-Ok.compiled.typed.labelled c.in_ok-program.ensures.ok.spelled c.in-Ok.ensures.ok.types;
-}
+returns-in-Ok-clause-accepted g c =
+    accepted _ c.in_ok-program.program c.in-Ok.compiled.typed.labelled c.in_ok-program.ensures.ok c.in-Ok.ensures.ok.types

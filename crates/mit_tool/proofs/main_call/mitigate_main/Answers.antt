@@ -1,4 +1,4 @@
-use Rattle.std.proofs.Common.{◌≡◌, ◌⊎◌, inr, refl}
+use Rattle.std.proofs.Common.{◌≡◌, ◌⊎◌, inr, refl, ap, Err}
 use Rattle.std.specs.Prelude.{ℕ, List, IfSome, map, string_bytes}
 use Rattle.tim_base.specs.Faults.{Rose}
 use Rattle.tool_words.specs.WordsAsked.{Asked, asked_of, command_of}
@@ -10,8 +10,7 @@ use Rattle.mit_tool.specs.Commands.{files_of, IsAnswer, Before, typed_content, H
 use Rattle.mit_tool.specs.Complete.{CanBeDone}
 use Rattle.tool_texts.proofs.EndLemmas.{ends_finish, ends_memory}
 use Rattle.mit_tool.proofs.AskedLemmas.{ends_past, ends_rechecked, ends_held, completes}
-use Rattle.mit_tool.proofs.RanLemmas.{ends_ran}
-use Rattle.mit_tool.specs.Ran.{HasRunSoundly}
+use Rattle.mit_tool.proofs.RanLemmas.{RanSoundly, ends_ran, runs_soundly, no_words_run}
 use Rattle.mit_tool.proofs.CommandLemmas.{nothing_before, memory_pieces, within}
 use Rattle.mit_tool.specs.Held.{EndsByOne, told_all}
 use Rattle.tool_stages.specs.Content.{NoneRises}
@@ -81,8 +80,9 @@ returns-in-Ok-clause-ran g c =
     let old = g.W.Sink.taken c.args.out.now in
     let new = g.W.Sink.taken c.obey.new.out in
     let a = asked_of c.in-Ok.command in
-    asked_some (command_of (map string_bytes c.args.words.now)) a (HasRunSoundly content old new c.obey.result) c.in-Ok.ensures.asked
-    (ends_ran c.typed_are_sound.ensures rises content old new (Before content a) c.obey.result a c.obey.ensures.answered)
+    runs_soundly content old new c.obey.result (map string_bytes c.args.words.now)
+    (asked_some (command_of (map string_bytes c.args.words.now)) a (RanSoundly content old new c.obey.result) c.in-Ok.ensures.asked
+    (ends_ran c.typed_are_sound.ensures rises content old new (Before content a) c.obey.result a c.obey.ensures.answered))
 
 pub returns-in-Err-Memory-clause-ran : goal.returns-in-Err-Memory-clause-ran
 returns-in-Err-Memory-clause-ran g c =
@@ -90,10 +90,16 @@ returns-in-Err-Memory-clause-ran g c =
     let rises = λ (name : List ℕ). Rose (g.S.Shelf.faults c.args.shelf.now name) (g.S.Shelf.faults c.args.shelf.now name) in
     let old = g.W.Sink.taken c.args.out.now in
     let new = g.W.Sink.taken c.stop_for_memory.new.out in
-    any_some (command_of (map string_bytes c.args.words.now)) (HasRunSoundly content old new c.stop_for_memory.result)
+    runs_soundly content old new c.stop_for_memory.result (map string_bytes c.args.words.now)
+    (any_some (command_of (map string_bytes c.args.words.now)) (RanSoundly content old new c.stop_for_memory.result)
     (λ a. ends_ran c.typed_are_sound.ensures rises content old new (Before content a) c.stop_for_memory.result a
     (ends_memory old new (Before content a) (IsAnswer rises content a) c.stop_for_memory.result (nothing_before content a)
-    c.stop_for_memory.ensures.told c.stop_for_memory.ensures.prefix))
+    c.stop_for_memory.ensures.told c.stop_for_memory.ensures.prefix)))
+
+pub returns-in-Err-Usage-clause-ran : goal.returns-in-Err-Usage-clause-ran
+returns-in-Err-Usage-clause-ran g c =
+    no_words_run (g.S.Shelf.content c.args.shelf.now) (g.W.Sink.taken c.args.out.now) (g.W.Sink.taken c.stop.new.out) c.stop.result
+    (map string_bytes c.args.words.now) (c.in-Err-Usage.ensures.usage (ap Err c.in-Err-Usage.field-0-is))
 
 pub returns-in-Ok-clause-rechecked : goal.returns-in-Ok-clause-rechecked
 returns-in-Ok-clause-rechecked g c = λ past.

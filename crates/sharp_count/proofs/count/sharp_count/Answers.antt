@@ -1,6 +1,7 @@
 use Rattle.std.proofs.Common.{◌≡◌, ℕ, suc, ◌+◌, ◌*◌, ap, ◌∙◌, subst, get_or, arith}
 use Rattle.std.specs.Prelude.{Option}
-use Rattle.sharp_count.specs.Count.{rising, sharp, fitting}
+use Rattle.leak_bound.specs.Rising.{rising, sharp}
+use Rattle.sharp_count.specs.Count.{fitting}
 use Rattle.sharp_count.proofs.count.sharp_count.Goals as goal
 
 one_level : (values counts : ℕ → ℕ) (l : ℕ) (r : Option ℕ) → r ≡ fitting (rising (values l) (counts l) * sharp values l counts)

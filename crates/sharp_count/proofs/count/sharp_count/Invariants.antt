@@ -1,5 +1,6 @@
 use Rattle.std.proofs.Common.{◌≡◌}
-use Rattle.sharp_count.specs.Count.{sharp, fitting}
+use Rattle.leak_bound.specs.Rising.{sharp}
+use Rattle.sharp_count.specs.Count.{fitting}
 use Rattle.sharp_count.specs.Levels.{counts_of, values_of}
 use Rattle.sharp_count.proofs.count.sharp_count.Given as goal
 

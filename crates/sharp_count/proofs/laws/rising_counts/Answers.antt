@@ -1,4 +1,4 @@
-use Rattle.sharp_count.proofs.Choose.{one-rising}
+use Rattle.leak_bound.proofs.Choose.{one-rising}
 use Rattle.sharp_count.proofs.Listing.{rising_counts}
 use Rattle.sharp_count.proofs.laws.rising_counts.Goals as goal
 

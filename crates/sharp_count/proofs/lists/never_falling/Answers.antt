@@ -1,6 +1,7 @@
 use Rattle.std.proofs.Common.{◌≡◌, ℕ, zero, suc, ◌+◌, ◌^◌, ◌≤◌, refl, sym, ap, ◌∙◌, arith}
-use Rattle.sharp_count.specs.Count.{rising, fitting}
-use Rattle.sharp_count.proofs.Choose.{rising-zero, rising-one, rising-le}
+use Rattle.leak_bound.specs.Rising.{rising}
+use Rattle.sharp_count.specs.Count.{fitting}
+use Rattle.leak_bound.proofs.Choose.{rising-zero, rising-one, rising-le}
 use Rattle.sharp_count.proofs.Fitting.{fits, over, untold}
 use Rattle.sharp_count.proofs.lists.never_falling.Goals as goal
 

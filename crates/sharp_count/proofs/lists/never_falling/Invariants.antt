@@ -1,5 +1,5 @@
 use Rattle.std.proofs.Common.{◌≡◌, ◌<◌, ◌^◌}
-use Rattle.sharp_count.specs.Count.{rising}
+use Rattle.leak_bound.specs.Rising.{rising}
 use Rattle.sharp_count.proofs.lists.never_falling.Given as goal
 
 -- the number for the values so far

@@ -1,5 +1,6 @@
 use Rattle.std.proofs.Common.{◌≡◌, ◌+◌, ◌*◌, ◌/◌, ◌%◌, sym, ap, ◌∙◌, subst, arith}
-use Rattle.sharp_count.specs.Count.{rising, fitting}
+use Rattle.leak_bound.specs.Rising.{rising}
+use Rattle.sharp_count.specs.Count.{fitting}
 use Rattle.sharp_count.proofs.Growing.{with_one_more}
 use Rattle.sharp_count.proofs.Fitting.{checked, over_more}
 use Rattle.sharp_count.proofs.lists.with_one_more.Goals as goal

@@ -3,7 +3,7 @@ use Rattle.std.proofs.lemmas.List.{with_items_is}
 use Rattle.std.proofs.lemmas.Option.{slice_get_read, get_or_from_slice_get}
 use Rattle.std.proofs.Math.Nat.{pow-zero, div-one}
 use Rattle.leak_bound.specs.Digits.{digits}
-use Rattle.sharp_count.specs.Count.{rising}
+use Rattle.leak_bound.specs.Rising.{rising}
 use Rattle.sharp_count.specs.Shares.{shares, IsTable}
 use Rattle.std.specs.Prelude.{max}
 use Rattle.sharp_count.proofs.Shares.{shares_few, ways_of_level, ways_of_one}

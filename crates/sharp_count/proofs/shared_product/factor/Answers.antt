@@ -2,7 +2,8 @@ use Rattle.std.proofs.Common.{◌/◌, ◌^◌, ◌<◌, ◌≤◌, Some, sym, a
 use Rattle.std.proofs.Math.Nat.{div-le_self}
 use Rattle.std.proofs.lemmas.Bool.{le-leb, lt-leb}
 use Rattle.std.specs.Prelude.{cond, max}
-use Rattle.sharp_count.specs.Count.{rising, fitting}
+use Rattle.leak_bound.specs.Rising.{rising}
+use Rattle.sharp_count.specs.Count.{fitting}
 use Rattle.sharp_count.specs.Levels.{miss_counts}
 use Rattle.sharp_count.specs.Shares.{shares}
 use Rattle.sharp_count.proofs.Binary.{digits_few}

@@ -1,6 +1,7 @@
 use Rattle.std.proofs.Common.{◌≡◌, ◌∙◌, sym, ap, refl}
 use Rattle.start_file.proofs.TableLemmas.{keys_told}
-use Rattle.space_file.specs.Files.{is_three, is_top_key}
+use Rattle.start_file.specs.Versions.{is_three}
+use Rattle.space_file.specs.Files.{is_top_key}
 use Rattle.space_file.proofs.read.document_space.Goals as goal
 
 pub returns-then-not-has_top_keys-clause-refused : goal.returns-then-not-has_top_keys-clause-refused

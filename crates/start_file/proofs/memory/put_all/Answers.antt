@@ -1,16 +1,14 @@
-use Rattle.std.proofs.Common.{◌∙◌, sym, ap, ◌∷◌, [], map, length, String, Global}
+use Rattle.std.proofs.Common.{◌∙◌, sym, ap, ◌∷◌, [], map, String, Global}
 use Rattle.std.proofs.lemmas.List.{map-append}
 use Rattle.std.specs.Map.Iter.{deref_pair}
 use Rattle.std.proofs.lemmas.Map.Iter.{rest_more, rest_so_far}
 use Rattle.toml.specs.View.{members_view}
 use Rattle.toml.specs.declared.value.Value.{Value}
 use Rattle.start_file.specs.Values.{memory_of}
-use Rattle.start_file.proofs.Written.{length-memory_of, passes_more, memory_more}
+use Rattle.start_file.proofs.Written.{passes_more}
+use Rattle.start_file.proofs.Filling.{memory_more}
+use Rattle.start_file.specs.Shared.{filled}
 use Rattle.start_file.proofs.memory.put_all.Goals as goal
-
-pub put-requires-clause-size : goal.put-requires-clause-size
-put-requires-clause-size c = ap length c.loop-key.invariant.memory
-    ∙ length-memory_of c.args.program.now.declarations (members_view (map deref_pair c.loop-key.yielded))
 
 pub loop-key-preserved : goal.loop-key-preserved
 loop-key-preserved c =
@@ -24,8 +22,9 @@ loop-key-preserved c =
     record {
       passes = passes_more ds c.loop-key.key-iterator c.next.new.self e c.as_str.result.now front c.as_str.ensures.value _ (sym c.put.ensures.value
           ∙ c.if-not-put.false) c.loop-key.invariant.passes;
-      memory = memory_more ds c.loop-key.key-iterator c.next.new.self e c.as_str.result.now front c.as_str.ensures.value c.args.table.now.entries done
-          c.loop-key.memory c.put.new.memory
-          c.requires.valid.differ gives.5 parts c.loop-key.invariant.memory (c.put.ensures.written c.if-not-put.false)
-          ∙ ap (λ l. memory_of ds (members_view l)) (sym one);
+      size = c.put.auto.memory ∙ c.loop-key.invariant.size;
+      memory = λ shared h. memory_more ds c.loop-key.key-iterator c.next.new.self e c.as_str.result.now front c.as_str.ensures.value c.args.table.now.entries
+          done shared c.loop-key.memory c.put.new.memory
+          c.requires.valid.differ gives.5 parts (c.loop-key.invariant.memory shared h) (c.put.ensures.written c.if-not-put.false)
+          ∙ ap (λ l. memory_of ds (filled (members_view l) shared)) (sym one);
     }

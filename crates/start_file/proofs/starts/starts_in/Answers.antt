@@ -19,7 +19,7 @@ returns-clause-ok c =
     let known = keys_told is_top_key c.args.table.now.entries c.has_top_keys.result _ c.has_top_keys.ensures c.if-not-has_top_keys.false in
     let all = known_top c.args.program.now (table_view c.args.table.now) c.in-Some.version version known
     ∙ sym (ap (runs_of c.args.program.now c.in-Some.version) c.at-2.ensures) in
-    IfOk-weaker c.runs.result _ _ (λ v e. all ∙ e) c.runs.ensures.ok
+    IfOk-weaker c.own_runs.result _ _ (λ v e. all ∙ e) c.own_runs.ensures.ok
 
 pub returns-clause-refused : goal.returns-clause-refused
 returns-clause-refused c =
@@ -27,4 +27,4 @@ returns-clause-refused c =
     let known = keys_told is_top_key c.args.table.now.entries c.has_top_keys.result _ c.has_top_keys.ensures c.if-not-has_top_keys.false in
     let all = known_top c.args.program.now (table_view c.args.table.now) c.in-Some.version version known
     ∙ sym (ap (runs_of c.args.program.now c.in-Some.version) c.at-2.ensures) in
-    IfErr-weaker c.runs.result _ _ (λ f e n. all ∙ e n) c.runs.ensures.refused
+    IfErr-weaker c.own_runs.result _ _ (λ f e n. all ∙ e n) c.own_runs.ensures.refused

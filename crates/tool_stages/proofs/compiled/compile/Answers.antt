@@ -6,7 +6,7 @@ use Rattle.tool_stages.specs.Begins.{ProgramCompileStops}
 use Rattle.tool_stages.proofs.FetchLemmas.{fetch_stops, not_read}
 use Rattle.tim_base.specs.Faults.{Rose}
 use Rattle.tool_stages.proofs.PrepareLemmas.{compiled_of, program_stops}
-use Rattle.tool_stages.proofs.SoundLemmas.{least_made}
+use Rattle.tool_stages.proofs.SoundLemmas.{accepted}
 use Rattle.tool_stages.proofs.compiled.compile.Goals as goal
 
 -- no stage behind the reading tells a read fault
@@ -42,10 +42,5 @@ returns-in-Err-clause-stop g c =
     c.args.file.now (option_map (λ s. s.now) c.args.name) c.in_ok-program.program c.in-Err.stop c.in_ok-program.ensures.ok c.in-Err.ensures.stop
 
 pub returns-in-Ok-clause-accepted : goal.returns-in-Ok-clause-accepted
-returns-in-Ok-clause-accepted g c = record {
-  program = c.in_ok-program.program;
-  reads = c.in_ok-program.ensures.ok;
-  labelled = c.in-Ok.compiled.typed.labelled;
-  types = c.in-Ok.ensures.ok.types;
-  typed = least_made _ c.in_ok-program.program c.in-Ok.compiled.typed.labelled c.in_ok-program.ensures.ok.spelled c.in-Ok.ensures.ok.types;
-}
+returns-in-Ok-clause-accepted g c =
+    accepted _ c.in_ok-program.program c.in-Ok.compiled.typed.labelled c.in_ok-program.ensures.ok c.in-Ok.ensures.ok.types

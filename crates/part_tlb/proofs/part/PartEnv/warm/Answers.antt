@@ -1,5 +1,6 @@
 use Rattle.std.proofs.Common.{◌≡◌, sym, ap, ◌∙◌, subst, []}
 use Rattle.std.proofs.lemmas.List.{drop_all}
+use Rattle.part_cache.specs.declared.replacement.Replacement.TheVariants.{LeastRecent}
 use Rattle.part_cache.specs.Rows.{IsCacheOf, StandsFor}
 use Rattle.part_tlb.specs.Structures.{IsMadeFor, StandsForAll, warmed}
 use Rattle.part_tlb.specs.Envs.{part_structure, part_structure, part_touched, empty_part}
@@ -30,6 +31,6 @@ returns-clause-history c =
     (subst (IsCacheOf c.args.lattice.now.value 8 2) c.in_ok-data_cache.ensures.value c.in_ok-data_cache.ensures.cache))
     c.requires
     (part_stands (empty_part c.args.lattice.now.value)
-    (subst (λ v. StandsFor v []) c.in_ok-buffer.ensures.value c.in_ok-buffer.ensures.history)
-    (subst (λ v. StandsFor v []) c.in_ok-code_cache.ensures.value c.in_ok-code_cache.ensures.history)
-    (subst (λ v. StandsFor v []) c.in_ok-data_cache.ensures.value c.in_ok-data_cache.ensures.history)))
+    (subst (λ v. StandsFor v []) c.in_ok-buffer.ensures.value (c.in_ok-buffer.ensures.history LeastRecent))
+    (subst (λ v. StandsFor v []) c.in_ok-code_cache.ensures.value (c.in_ok-code_cache.ensures.history LeastRecent))
+    (subst (λ v. StandsFor v []) c.in_ok-data_cache.ensures.value (c.in_ok-data_cache.ensures.history LeastRecent))))

@@ -2,6 +2,7 @@ use Rattle.std.proofs.Common.{◌≡◌, ◌<◌, sym, ap, ◌∙◌, subst, []}
 use Rattle.std.proofs.lemmas.List.{drop_all}
 use Rattle.std.proofs.lemmas.List.Elements.{All-get_or}
 use Rattle.part_tlb.specs.declared.part.PartEnv.{PartEnv}
+use Rattle.part_cache.specs.declared.replacement.Replacement.TheVariants.{LeastRecent}
 use Rattle.part_cache.specs.Rows.{Rows, IsCacheOf, StandsFor}
 use Rattle.part_tlb.specs.Structures.{IsMadeFor, StandsForAll, warmed}
 use Rattle.part_tlb.specs.Envs.{part_structure, empty_part, part2_structure, part2_touched, empty_part2}
@@ -52,4 +53,4 @@ returns-clause-history c =
     c.requires
     (part2_stands (empty_part2 c.args.lattice.now.value)
     (subst (λ e. StandsForAll part_structure e []) c.in_ok-first.ensures.value c.in_ok-first.ensures.history)
-    (subst (λ v. StandsFor v []) c.in_ok-second.ensures.value c.in_ok-second.ensures.history)))
+    (subst (λ v. StandsFor v []) c.in_ok-second.ensures.value (c.in_ok-second.ensures.history LeastRecent))))

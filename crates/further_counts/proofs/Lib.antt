@@ -1,0 +1,10 @@
+pub mod Near
+pub mod TwoLabels
+pub mod Sleeper
+pub mod Reached
+pub mod Twice
+pub mod Both
+pub mod Many
+pub mod Left
+pub mod Lowered
+pub mod ManyWorth
