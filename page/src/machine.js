@@ -17,6 +17,8 @@ export function machinesOf(files) {
     ['shared.toml', 'one level, shared', files['machines/shared.toml']],
     ['shared2.toml', 'two levels, shared', files['machines/shared2.toml']],
     ['larger.toml', 'larger caches, partitions', files['machines/larger.toml']],
+    ['fifo.toml', 'first come, first gone', files['machines/fifo.toml']],
+    ['real.toml', 'sizes as of today', files['machines/real.toml']],
     ['pldi2012.toml', 'near to a published one', files['machines/pldi2012.toml']],
   ].map(([name, says, text]) => ({ name, says, text }));
 }

@@ -90,12 +90,13 @@ def machines_are_chosen(page):
     choices = page.run(CHOICES)
     same(choices[:3], ["flat", "part", "part2"], "the environments")
     same(sorted(choices[3:]), sorted([*names, "own"]), "the machines")
+    page.set("#budget", "65535")
     seen = {}
-    for name in ("part", "part2", "larger", "pldi2012", "shared", "shared2"):
+    for name in ("part", "part2", "larger", "pldi2012", "fifo", "real", "shared", "shared2"):
         choose_file(page, name)
         same(page.value("#machine-text"), machine_text(name), "its text")
         seen[name] = compare(page)
-    same(seen, {"part": 1, "part2": 1, "larger": 1, "pldi2012": 1, "shared": 16, "shared2": 16}, "how many things are seen")
+    same(seen, {name: 16 if "shared" in name else 1 for name in seen}, "how many things are seen")
 
 
 def own_machine(page):
@@ -122,8 +123,8 @@ def machine_is_refused(page):
         (("version = 1", "version = 2"), "version = 1 has to be there", "version = 2"),
         (('"shared"', '"both"'), "sharing = ", "sharing ="),
         (
-            ("sets = 8, ways = 2, bytes = 32, hit = 0, miss = 8", "sets = 99, ways = 2, bytes = 32, hit = 0, miss = 8"),
-            "code has 1 to 64",
+            ("sets = 8, ways = 2, bytes = 32, hit = 0, miss = 8", "sets = 4097, ways = 2, bytes = 32, hit = 0, miss = 8"),
+            "code has 1 to 4096 sets",
             "code",
         ),
         (("sets = 1, ways = 4", "sets = 1, ways = 9"), "page has 1 to 8 ways", "page"),
