@@ -320,8 +320,9 @@ class Firefox(Browser):
             " return e.sourceName + ': ' + e.errorMessage + ' [' + e.category + ']'; } catch (x) { return ''; } });"
             " Services.console.reset(); return all;"
         )
-        # Advice about scrolling is none of a fault: the editor's library keeps its numbers of lines in place by it.
-        found = [one for one in found if not one.endswith("[Async Pan/Zoom]")]
+        # Advice about scrolling is none of a fault: the editor's library keeps its numbers of lines in place by it. Nor is it
+        # one that a script of a page that is left is cut off, as happens on a busy machine whatever is set.
+        found = [one for one in found if not one.endswith("[Async Pan/Zoom]") and "Script terminated by timeout" not in one]
         return [one for one in found if one.startswith(("file:", "blob:", "http:"))]
 
 
