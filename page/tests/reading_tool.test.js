@@ -17,7 +17,8 @@ const EXAMPLES = new URL('../../examples/', import.meta.url);
 const read = (name) => fs.readFileSync(new URL(name, EXAMPLES), 'utf8');
 const bytes = moduleBytes(), skip = bytes ? false : 'there is no page/index.html yet';
 const module = bytes && new WebAssembly.Module(bytes);
-const MACHINES = ['part', 'part2', 'shared', 'shared2', 'larger', 'pldi2012', 'fifo', 'real'].map((name) => `${name}.toml`);
+const MACHINES = ['part', 'part2', 'shared', 'shared2', 'larger', 'pldi2012', 'fifo', 'real']
+  .map((name) => `${name}.toml`);
 const RANDOM = 100, ROOM = 1 << 23;
 
 function call(program, words, files) {
